@@ -1,0 +1,4 @@
+pub mod Area
+pub mod Words
+pub mod Located
+pub mod Kept

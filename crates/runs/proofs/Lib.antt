@@ -1,0 +1,5 @@
+pub mod Laws
+pub mod Fronts
+pub mod Steps
+pub mod Places
+pub mod Cells
