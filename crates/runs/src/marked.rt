@@ -23,10 +23,10 @@ pub trait MarkedBox<M> {
 
     ghost size: { Self → ℕ };
 
-    law ordered: { (b : Self) → InOrder 0 (cells b) (size b) };
-
+    /// How many positions the box has. The cells are in order, and inside.
     fn positions(&self) -> u64
-        ensures { λ r. ⌜ r ≡ size (now (self .entry)) ⌝ };
+        ensures value { λ r. ⌜ r ≡ size (now (self .entry)) ⌝ }
+        ensures ordered { λ _. ⌜ InOrder 0 (cells (now (self .entry))) (size (now (self .entry))) ⌝ };
 
     fn gap_mark(&self) -> M
         ensures { λ r. ⌜ r ≡ gap (now (self .entry)) ⌝ };

@@ -68,6 +68,14 @@ impl CellMemory {
         Ok(CellMemory { cells, limit })
     }
 
+    /// Forgets all cells.
+    pub fn clear(&mut self)
+        ensures none { λ _. ⌜ vec-items (now (self .exit) .cells) ≡ [] ⌝ }
+        ensures limit { λ _. ⌜ now (self .exit) .limit ≡ now (self .entry) .limit ⌝ }
+    {
+        self.cells.clear();
+    }
+
     /// Keeps an id at a position, in the place of an earlier one there. Where the memory is full and
     /// the position is new it changes nothing, and answers false.
     pub fn keep(&mut self, at: Position, id: u32) -> bool

@@ -14,7 +14,7 @@ loop-index-holds g c =
     let gap = box .gap area in
     let cells = box .cells area in (
       omega arith,
-      left-all gap cells (box .size area) (g .B·MarkedBox·met .ordered area),
+      left-all gap cells (box .size area) (c .positions-size .ensures .ordered),
       written-none (mark-of gap cells) (c .gap-mark-gap .result) (c .args .marks .now) (c .args .ends .now),
     )
 
@@ -66,4 +66,4 @@ returns g c =
     let last = c .extend-tail-2 .ensures in
     let past-cells : (p : ℕ) → c .loop-index .tail .end ≤ p → p < c .positions-size .result → spot p ≡ c .gap-mark-gap .result =
     λ p from-p p-end. left .marks p from-p ∙ sym (c .gap-mark-gap .ensures) in
-    written-all (last .written spot past-cells _ _ (c .loop-index .inv .2)) (last .end ∙ c .positions-size .ensures)
+    written-all (last .written spot past-cells _ _ (c .loop-index .inv .2)) (last .end ∙ c .positions-size .ensures .value)

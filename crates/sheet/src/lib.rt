@@ -1,0 +1,13 @@
+//! A sheet of styled cells: put, clear, pack, get, kind and walk.
+mod answers;
+mod marked;
+mod memory;
+mod xf;
+
+pub use answers::ClearRefusal;
+pub use answers::PackRefusal;
+pub use answers::Put;
+pub use answers::PutRefusal;
+pub use answers::RunCounts;
+pub use memory::Sheet;
+pub use xf::Xf;

@@ -1,0 +1,22 @@
+//! Entries of the palette.
+ghost use mathlib.Core.Path.{_≡_};
+ghost use Rattle.sheet.specs.Palette.{kind-at};
+use formats::CellFormat;
+
+/// A style and its date kind. The palette is a list of these, and a style id is an index of it.
+pub struct Xf<S> {
+    pub style: S,
+    pub kind: CellFormat,
+}
+
+/// The date kind of a style id: `Other` past the palette.
+pub(crate) fn kind_of<S>(palette: &[Xf<S>], id: u32) -> CellFormat
+    ensures { λ r. ⌜ r ≡ kind-at (now (palette .entry)) id ⌝ }
+{
+    let index = id as usize;
+    if index < palette.len() {
+        palette[index].kind
+    } else {
+        CellFormat::Other
+    }
+}
