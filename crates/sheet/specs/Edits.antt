@@ -28,8 +28,8 @@ pub record Made (cells : CellMemory) (ids : Vec ℕ Global) (id-ends : Vec ℕ G
   pub kind-ends-are : s .kinds .ends ≡ kind-ends
   pub no-kinds : s .kinds .used ≡ 0
 
--- only the cells may differ
-pub record Repacked-by-none (s s′ : Sheet) : Type 0 where
+-- the box, the runs and the room are as they were: only the cells may differ
+pub record SameRuns (s s′ : Sheet) : Type 0 where
   pub room-same : cell-room s′ ≡ cell-room s
   pub box-same : s′ .area ≡ s .area
   pub ids-same : s′ .ids ≡ s .ids
@@ -40,7 +40,7 @@ module _ (P : ℕ) (s : Sheet) (row column id : ℕ) where
     pub is : answer ≡ put-answer P (cell-room s) (words s) (kept s) row column id
     pub words-after : (r c : ℕ) → words s′ r c ≡ put-words P (cell-room s) (words s) (kept s) row column id r c
     pub kept-after : kept s′ ≡ put-kept P (cell-room s) (words s) (kept s) row column id
-    pub rest : Repacked-by-none s s′
+    pub rest : SameRuns s s′
     pub unchanged : keeps P (cell-room s) (words s) (kept s) row column id ≡ false → s′ ≡ s
 
 module _ (s : Sheet) (row column : ℕ) where
@@ -48,5 +48,5 @@ module _ (s : Sheet) (row column : ℕ) where
     pub is : answer ≡ clear-answer (words s) (kept s) row column
     pub words-after : (r c : ℕ) → words s′ r c ≡ clear-words (words s) (kept s) row column r c
     pub kept-after : kept s′ ≡ clear-kept (words s) (kept s) row column
-    pub rest : Repacked-by-none s s′
+    pub rest : SameRuns s s′
     pub unchanged : clears (words s) (kept s) row column ≡ false → s′ ≡ s

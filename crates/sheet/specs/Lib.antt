@@ -4,3 +4,4 @@ pub mod Placing
 pub mod Contents
 pub mod Rules
 pub mod Edits
+pub mod Packs

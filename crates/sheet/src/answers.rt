@@ -4,7 +4,7 @@ ghost use Rattle.sheet.specs.Refusals.{put-number, clear-number, pack-number};
 use std::fmt;
 
 /// How a put that is not refused went.
-#[derive(Clone, Copy, PartialEq, Eq, Debug)]
+#[derive(Clone, Copy)]
 pub enum Put {
     /// The cell is kept with its id.
     Kept,
@@ -13,7 +13,7 @@ pub enum Put {
 }
 
 /// Why a put was refused.
-#[derive(Clone, Copy, PartialEq, Eq, Debug)]
+#[derive(Clone, Copy)]
 pub enum PutRefusal {
     /// The row or the column is off the sheet.
     OffSheet,
@@ -22,14 +22,14 @@ pub enum PutRefusal {
 }
 
 /// Why a clear was refused.
-#[derive(Clone, Copy, PartialEq, Eq, Debug)]
+#[derive(Clone, Copy)]
 pub enum ClearRefusal {
     /// The row or the column is off the sheet.
     OffSheet,
 }
 
 /// Why a pack was refused, with the number of runs that it needs.
-#[derive(Clone, Copy, PartialEq, Eq, Debug)]
+#[derive(Clone, Copy)]
 pub enum PackRefusal {
     /// There are more runs of style ids than the run memory has room for.
     IdRuns { needed: usize },
@@ -38,7 +38,7 @@ pub enum PackRefusal {
 }
 
 /// How many runs of each kind an accepted pack wrote.
-#[derive(Clone, Copy, PartialEq, Eq, Debug)]
+#[derive(Clone, Copy)]
 pub struct RunCounts {
     pub ids: usize,
     pub kinds: usize,

@@ -5,6 +5,7 @@ use formats::CellFormat;
 use runs::RunMemory;
 
 mod edits;
+mod packs;
 
 /// The cells that are kept now, and the box and the runs of the latest accepted pack.
 #[derive(Drop)]

@@ -109,7 +109,8 @@ impl CellMemory {
 
     /// The cells, in order.
     pub fn cells(&self) -> &[Cell]
-        ensures { λ r. ⌜ now r ≡ vec-items (now (self .entry) .cells) ⌝ }
+        ensures value { λ r. ⌜ now r ≡ vec-items (now (self .entry) .cells) ⌝ }
+        ensures ordered { λ r. ⌜ Ordered (now r) ⌝ }
     {
         self.cells.as_slice()
     }
