@@ -1,3 +1,4 @@
 pub mod Order
 pub mod Words
 pub mod Around
+pub mod Places

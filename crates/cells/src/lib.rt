@@ -4,8 +4,10 @@ mod bounding_box;
 mod cell;
 mod memory;
 mod position;
+mod positions;
 
 pub use bounding_box::BoundingBox;
 pub use cell::Cell;
 pub use memory::CellMemory;
 pub use position::Position;
+pub use positions::Positions;

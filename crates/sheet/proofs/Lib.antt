@@ -1,4 +1,4 @@
-pub mod Places
 pub mod Placing
 pub mod Palette
 pub mod Packs
+pub mod Walks

@@ -21,7 +21,7 @@ use Rattle.cells.specs.Words.{number, Ordered, words-of}
 use Rattle.cells.proofs.Order.{ordered-at, ordered-from}
 use Rattle.cells.proofs.Around.{cell-word}
 use Rattle.sheet.specs.Placing.{placed}
-use Rattle.sheet.proofs.Places.{inside-true, true-inside, place-below, place-later, place-at, row-place, column-place}
+use Rattle.cells.proofs.Places.{inside-true, true-inside, place-below, place-later, place-at, row-place, column-place}
 
 -- each cell of the list lies in the area
 abbrev pub Held : Area → List Cell → Type 0

@@ -5,3 +5,5 @@ pub mod Contents
 pub mod Rules
 pub mod Edits
 pub mod Packs
+pub mod Reads
+pub mod Coming

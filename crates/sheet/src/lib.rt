@@ -2,6 +2,7 @@
 mod answers;
 mod marked;
 mod memory;
+mod walk;
 mod xf;
 
 pub use answers::ClearRefusal;
@@ -10,4 +11,7 @@ pub use answers::Put;
 pub use answers::PutRefusal;
 pub use answers::RunCounts;
 pub use memory::Sheet;
+pub use walk::Styled;
+pub use walk::Walk;
+pub use walk::WalkIterator;
 pub use xf::Xf;

@@ -6,6 +6,7 @@ use runs::RunMemory;
 
 mod edits;
 mod packs;
+mod reads;
 
 /// The cells that are kept now, and the box and the runs of the latest accepted pack.
 #[derive(Drop)]

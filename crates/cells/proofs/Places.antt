@@ -58,3 +58,13 @@ module _ (a : Area) where
           let later = columns same in
           omega (arith, ap (λ x. (x - a .top) * width a) same))
       (cases-lt r r′)
+
+  -- the next place is the next column's, or that of the next row's first column after the last
+  pub next-column : (r c : ℕ) → a .left ≤ c → place-in a r (c + 1) ≡ place-in a r c + 1
+  next-column r c l = omega arith
+
+  pub next-row : (r c : ℕ) → a .top ≤ r → a .left ≤ a .right → c ≡ a .right → place-in a (r + 1) (a .left) ≡ place-in a r c + 1
+  next-row r c t w e =
+      let s : r + 1 - a .top ≡ r - a .top + 1 = omega arith in
+      let n = add-mul (r - a .top) 1 (width a) in
+      omega (arith, ap (λ x. x * width a) s)
