@@ -1,9 +1,10 @@
 //! Date kinds: what a cell's number format makes of its number.
+ghost use Rattle.formats.specs.Kinds.{same-kind};
 use runs::Mark;
 use std::fmt;
 
 /// A cell's number is a date or time of day, a length of time, or any other number.
-#[derive(Clone, Copy, PartialEq, Eq, Debug)]
+#[derive(Clone, Copy, PartialEq, Eq)]
 pub enum CellFormat {
     Other,
     DateTime,
@@ -12,6 +13,8 @@ pub enum CellFormat {
 
 /// Date kinds are marks.
 pub impl Mark for CellFormat as KindMark {
+    ghost agrees = { same-kind };
+
     fn same(&self, other: &CellFormat) -> bool {
         *self == *other
     }

@@ -5,7 +5,8 @@ use Prim.Native.Nat.{ℕ, zero, suc, _≤_, _<_}
 use native.Mathlib.Omega.{arith}
 use lib.ListN.{length, getD, set, take}
 use Rattle.std.proofs.shelf.Lists.{length-take, length-map, getD-take, set-set}
-use Rattle.runs.specs.Runs.{Run, Spells, Packing}
+use Rattle.runs.specs.declared.run.Run.{Run}
+use Rattle.runs.specs.Runs.{Spells, Packing}
 use Rattle.runs.specs.Memory.{overlay, runs-of, Rises, FirstAboveZero}
 
 -- an overlay keeps the memory's length

@@ -11,7 +11,8 @@ use Rattle.std.specs.Orderings.{Decides}
 use Rattle.std.specs.declared.option.Option.the-variants.{Some, None}
 use Rattle.std.proofs.shelf.Tests.{cases-lt, cases-eq, cases-order, cases-bool, lt-ltb, le-ltb, cond-true, cond-false}
 use Rattle.std.proofs.shelf.Ways.{not-from-decides}
-use Rattle.runs.specs.Runs.{Run, Spells, Apart, Packing, Shortest, mark-at}
+use Rattle.runs.specs.declared.run.Run.{Run}
+use Rattle.runs.specs.Runs.{Spells, Apart, Packing, Shortest, mark-at}
 pub use Rattle.runs.proofs.Fronts.{length-overlay, front-runs}
 
 -- What a list that spells the positions from `from` up to n says of these two numbers.

@@ -7,7 +7,8 @@ use native.Mathlib.Omega.{arith}
 use lib.ListN.{length, set}
 use Rattle.std.proofs.shelf.Lists.{length-map, length-push, map-push, nil-from-length}
 use Rattle.std.proofs.shelf.Tests.{cases-lt}
-use Rattle.runs.specs.Runs.{Run, Spells, Apart, Packing}
+use Rattle.runs.specs.declared.run.Run.{Run}
+use Rattle.runs.specs.Runs.{Spells, Apart, Packing}
 use Rattle.runs.specs.Memory.{overlay, Packed}
 use Rattle.runs.specs.Written.{Written}
 use Rattle.runs.proofs.Fronts.{overlay-push, overlay-last}
@@ -16,6 +17,11 @@ use Rattle.runs.proofs.Laws.{run, shortest}
 -- every position from `from` up to `upto` has that mark
 abbrev pub Marked : {M : Type 0} → (ℕ → M) → ℕ → ℕ → M → Type 0
 Marked spot from upto mark = (p : ℕ) → from ≤ p → p < upto → spot p ≡ mark
+
+-- how the index of the run to write is chosen: the last one's where it has the same mark, else the next
+abbrev pub Chosen : {M : Type 0} → ℕ → M → M → ℕ → Type 0
+Chosen count last mark index =
+    ((index + 1 ≡ count) × (last ≡ mark)) ⊎ ((index ≡ count) × (0 < count → last ≡ mark → ⊥))
 
 pub spells-push : {M : Type 0} (spot : ℕ → M) (from mid upto : ℕ) (mark : M) (runs : List (Run M)) → Spells spot from runs mid → mid < upto → Marked spot mid upto mark → Spells spot from (runs ++ (run mark upto ∷ [])) upto
 spells-push spot from mid upto mark [] spelt forward marked =
@@ -105,12 +111,8 @@ module _ {M : Type 0} {spot : ℕ → M} {end count upto : ℕ} {last mark : M} 
         ends-are = overlay-field-last (λ r. r .end) before (run mark end) (run mark upto) ends0 ends index counted (written .ends-are ∙ ap (λ l. overlay (map (λ r. r .end) l) ends0) is);
       }
 
-  -- how the index of the run to write was chosen
-  abbrev pub Chosen : ℕ → Type 0
-  Chosen index = ((index + 1 ≡ count) × (last ≡ mark)) ⊎ ((index ≡ count) × (0 < count → last ≡ mark → ⊥))
-
   -- one step: the positions up to `upto` are packed too
-  pub written-more : (index : ℕ) → Chosen index → Written spot upto (index + 1) mark marks0 (set marks index mark) ends0 (set ends index upto)
+  pub written-more : (index : ℕ) → Chosen count last mark index → Written spot upto (index + 1) mark marks0 (set marks index mark) ends0 (set ends index upto)
   written-more index chosen =
       let After : ℕ → Type 0 = λ k. Written spot upto (k + 1) mark marks0 (set marks k mark) ends0 (set ends k upto) in
       ⊎-elim

@@ -3,7 +3,8 @@ use mathlib.Core.Path.{_≡_}
 use mathlib.Core.List.{List, [], _∷_, map}
 use Prim.Native.Nat.{ℕ, _<_}
 use lib.ListN.{length, getD}
-use Rattle.runs.specs.Runs.{Run, Packing, Shortest}
+use Rattle.runs.specs.declared.run.Run.{Run}
+use Rattle.runs.specs.Runs.{Packing, Shortest}
 
 -- xs over the front of old, as far as old reaches; the rest of old stays
 abbrev pub overlay : {X : Type 0} → List X → List X → List X

@@ -8,11 +8,7 @@ use lib.Dec.{ltb}
 use lib.ListN.{length}
 use Rattle.std.specs.declared.option.Option.{Option}
 use Rattle.std.specs.declared.option.Option.the-variants.{Some, None}
-
--- equal marks side by side, with the count of positions up to the end of the run
-pub record Run (M : Type 0) : Type 0 where
-  pub mark : M
-  pub end : ℕ
+use Rattle.runs.specs.declared.run.Run.{Run}
 
 -- The list spells the positions from `from` up to n: its ends rise, from above `from` to n, and each position has the
 -- mark of its run.

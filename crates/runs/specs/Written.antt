@@ -3,7 +3,8 @@ use mathlib.Core.Path.{_≡_}
 use mathlib.Core.List.{List, [], _∷_, _++_, map}
 use Prim.Native.Nat.{ℕ, _<_}
 use lib.ListN.{length}
-use Rattle.runs.specs.Runs.{Run, Packing}
+use Rattle.runs.specs.declared.run.Run.{Run}
+use Rattle.runs.specs.Runs.{Packing}
 use Rattle.runs.specs.Memory.{overlay}
 
 pub record Written {M : Type 0} (spot : ℕ → M) (end count : ℕ) (mark : M) (marks0 marks : List M) (ends0 ends : List ℕ) : Type 0 where

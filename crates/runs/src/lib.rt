@@ -4,6 +4,7 @@ mod mark;
 mod marked;
 mod memory;
 mod packing;
+mod run;
 mod table;
 mod walk;
 
@@ -14,5 +15,6 @@ pub use marked::Placed;
 pub use memory::RunMemory;
 pub use packing::needed;
 pub use packing::pack;
+pub use run::Run;
 pub use table::RunTable;
 pub use walk::RunWalk;

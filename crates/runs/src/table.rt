@@ -3,9 +3,12 @@ ghost use mathlib.Core.Path.{_≡_};
 ghost use Prim.Native.Nat.{ℕ, _≤_, _<_};
 ghost use denote.Ref.{now};
 ghost use lib.ListN.{length, getD};
+ghost use Rattle.std.specs.Finite.{nth};
+ghost use Rattle.std.specs.Orderings.{Decides};
 ghost use Rattle.runs.specs.Runs.{mark-at};
 ghost use Rattle.runs.specs.Memory.{Rises, FirstAboveZero, runs-of};
 use crate::mark::Mark;
+use crate::run::Run;
 
 /// Runs whose ends rise from above 0: a mark and an end each, in memory that is lent.
 #[derive(Drop)]
@@ -37,6 +40,17 @@ fn run_index(ends: &[u64], place: u64) -> usize
     low
 }
 
+/// Whether two runs, or their absences, are the same.
+fn same_run<M: Mark>(one: Option<Run<M>>, other: Option<Run<M>>) -> bool
+    ensures { λ r. ⌜ Decides r (one ≡ other) ⌝ }
+{
+    match (one, other) {
+        (Some(a), Some(b)) => a.end == b.end && a.mark.same(&b.mark),
+        (None, None) => true,
+        _ => false,
+    }
+}
+
 impl<'m, M: Mark> RunTable<'m, M> {
     /// The table over marks and ends that are as many, where the ends rise from above 0.
     pub(crate) fn over(marks: &'m [M], ends: &'m [u64]) -> Self
@@ -66,5 +80,33 @@ impl<'m, M: Mark> RunTable<'m, M> {
         } else {
             None
         }
+    }
+
+    /// The run of an index, or none past the last.
+    pub fn run(&self, index: usize) -> Option<Run<M>>
+        ensures { λ r. ⌜ r ≡ nth (runs-of (now (now (self .entry) .marks)) (now (now (self .entry) .ends))) index ⌝ }
+    {
+        if index >= self.ends.len() {
+            return None;
+        }
+        Some(Run {
+            mark: self.marks[index],
+            end: self.ends[index],
+        })
+    }
+
+    /// Whether two tables hold the same runs.
+    pub fn same(&self, other: &RunTable<'_, M>) -> bool
+        ensures { λ r. ⌜ Decides r (runs-of (now (now (self .entry) .marks)) (now (now (self .entry) .ends)) ≡ runs-of (now (now (other .entry) .marks)) (now (now (other .entry) .ends))) ⌝ }
+    {
+        if self.count() != other.count() {
+            return false;
+        }
+        for index in 0..self.count() {
+            if !same_run(self.run(index), other.run(index)) {
+                return false;
+            }
+        }
+        true
     }
 }

@@ -11,11 +11,13 @@ use Rattle.std.specs.Of.Vec.{vec-len, vec-items}
 use Rattle.std.specs.declared.result.Result.{Result}
 use Rattle.std.specs.declared.result.Result.the-variants.{Ok, Err}
 use Rattle.std.proofs.shelf.Tests.{lt-ltb, le-ltb, cond-true, cond-false}
-use Rattle.runs.specs.Runs.{Run, Packing}
+use Rattle.runs.specs.declared.run.Run.{Run}
+use Rattle.runs.specs.Runs.{Packing}
 use Rattle.runs.specs.Marks.{mark-of}
 use Rattle.runs.specs.Memory.{Packed, overlay, runs-of}
 use Rattle.runs.specs.declared.memory.RunMemory.{RunMemory}
 use Rattle.runs.proofs.Laws.{packing-same, packing-exists, one-packing, front-runs}
+use Rattle.formats.specs.Kinds.{same-kind}
 use Rattle.formats.specs.declared.CellFormat.{CellFormat}
 use Rattle.formats.specs.declared.CellFormat.the-variants.{Other, DateTime, TimeDelta}
 use Rattle.cells.specs.declared.cell.Cell.{Cell}
@@ -71,19 +73,7 @@ holds-packed spot n needed m m′ p used-by marks-len ends-len fits =
     used-is = omega arith
 
 -- date kinds can be compared, so that packing's list exists
-same-kind : CellFormat → CellFormat → Bool
-same-kind Other Other = true
-same-kind Other DateTime = false
-same-kind Other TimeDelta = false
-same-kind DateTime Other = false
-same-kind DateTime DateTime = true
-same-kind DateTime TimeDelta = false
-same-kind TimeDelta Other = false
-same-kind TimeDelta DateTime = false
-same-kind TimeDelta TimeDelta = true
-
 same-kind-decides : (a b : CellFormat) → Decides (same-kind a b) (a ≡ b)
-unfolding same-kind
 same-kind-decides Other Other = (λ _. refl, λ _. refl)
 same-kind-decides Other DateTime = (λ e. cc, λ e. cc)
 same-kind-decides Other TimeDelta = (λ e. cc, λ e. cc)

@@ -10,7 +10,8 @@ use Rattle.std.specs.Options.{isSome}
 use Rattle.std.specs.declared.option.Option.{Option}
 use Rattle.std.specs.declared.option.Option.the-variants.{Some, None}
 use Rattle.std.proofs.shelf.Tests.{cases-bool, cases-lt, cond-true, cond-false, lt-ltb, le-ltb, ltb-false, true≢false}
-use Rattle.runs.specs.Runs.{Run, mark-at}
+use Rattle.runs.specs.declared.run.Run.{Run}
+use Rattle.runs.specs.Runs.{mark-at}
 use Rattle.cells.specs.Area.{Area, size, row-at, column-at}
 use Rattle.sheet.specs.declared.xf.Xf.{Xf}
 use Rattle.sheet.specs.Reads.{Seen, seen-at, styled}

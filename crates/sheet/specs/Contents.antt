@@ -6,13 +6,14 @@ use Rattle.std.specs.Of.Vec.{vec-len, vec-items}
 use Rattle.std.specs.Options.{mapped}
 use Rattle.std.specs.declared.option.Option.{Option}
 use Rattle.runs.specs.declared.memory.RunMemory.{RunMemory}
-use Rattle.runs.specs.Runs.{Run}
+use Rattle.runs.specs.declared.run.Run.{Run}
 use Rattle.runs.specs.Memory.{runs-of}
 use Rattle.formats.specs.declared.CellFormat.{CellFormat}
 use Rattle.cells.specs.Area.{Area, extent}
 use Rattle.cells.specs.Words.{Words}
 use Rattle.cells.specs.Kept as cells
 use Rattle.sheet.specs.declared.memory.Sheet.{Sheet}
+use Rattle.sheet.specs.declared.memory.SheetMemory.{SheetMemory}
 
 -- the word of each position
 abbrev pub words : Sheet → Words
@@ -47,3 +48,10 @@ id-runs s = held (s .ids)
 
 abbrev pub kind-runs : Sheet → List (Run CellFormat)
 kind-runs s = held (s .kinds)
+
+-- C and R of memory that is handed to a sheet
+abbrev pub memory-cell-room : SheetMemory → ℕ
+memory-cell-room m = m .cells .limit
+
+abbrev pub memory-run-room : SheetMemory → ℕ
+memory-run-room m = min (min (vec-len (m .ids)) (vec-len (m .«id_ends»))) (min (vec-len (m .kinds)) (vec-len (m .«kind_ends»)))

@@ -4,28 +4,25 @@ use mathlib.Core.Bool.{Bool, true, false}
 use Prim.Native.Nat.{ℕ}
 use Rattle.std.specs.declared.option.Option.the-variants.{None}
 use Rattle.std.specs.declared.result.Result.{Result}
-use Rattle.std.specs.declared.vec.Vec.{Vec}
-use Rattle.std.specs.declared.alloc.Global.{Global}
-use Rattle.formats.specs.declared.CellFormat.{CellFormat}
-use Rattle.cells.specs.declared.memory.CellMemory.{CellMemory}
 use Rattle.sheet.specs.declared.memory.Sheet.{Sheet}
+use Rattle.sheet.specs.declared.memory.SheetMemory.{SheetMemory}
 use Rattle.sheet.specs.declared.answers.Put.{Put}
 use Rattle.sheet.specs.declared.answers.PutRefusal.{PutRefusal}
 use Rattle.sheet.specs.declared.answers.ClearRefusal.{ClearRefusal}
-use Rattle.sheet.specs.Contents.{words, kept, cell-room}
+use Rattle.sheet.specs.Contents.{words, kept, cell-room, memory-cell-room}
 use Rattle.sheet.specs.Rules.{keeps, put-answer, put-words, put-kept, clears, clear-answer, clear-words, clear-kept}
 
 -- A new sheet keeps no cell and has no box and no runs; the entries of its run memory are those that were handed over.
-pub record Made (cells : CellMemory) (ids : Vec ℕ Global) (id-ends : Vec ℕ Global) (kinds : Vec CellFormat Global) (kind-ends : Vec ℕ Global) (s : Sheet) : Type 0 where
+pub record Made (m : SheetMemory) (s : Sheet) : Type 0 where
   pub no-words : (r c : ℕ) → words s r c ≡ None
   pub none-kept : kept s ≡ 0
-  pub room-is : cell-room s ≡ cells .limit
+  pub room-is : cell-room s ≡ memory-cell-room m
   pub no-box : s .area ≡ None
-  pub ids-are : s .ids .marks ≡ ids
-  pub id-ends-are : s .ids .ends ≡ id-ends
+  pub ids-are : s .ids .marks ≡ m .ids
+  pub id-ends-are : s .ids .ends ≡ m .«id_ends»
   pub no-ids : s .ids .used ≡ 0
-  pub kinds-are : s .kinds .marks ≡ kinds
-  pub kind-ends-are : s .kinds .ends ≡ kind-ends
+  pub kinds-are : s .kinds .marks ≡ m .kinds
+  pub kind-ends-are : s .kinds .ends ≡ m .«kind_ends»
   pub no-kinds : s .kinds .used ≡ 0
 
 -- the box, the runs and the room are as they were: only the cells may differ

@@ -12,7 +12,8 @@ use Rattle.std.specs.declared.option.Option.{Option}
 use Rattle.std.specs.declared.option.Option.the-variants.{Some, None}
 use Rattle.std.specs.declared.result.Result.{Result}
 use Rattle.std.specs.declared.result.Result.the-variants.{Ok, Err}
-use Rattle.runs.specs.Runs.{Run, Packing}
+use Rattle.runs.specs.declared.run.Run.{Run}
+use Rattle.runs.specs.Runs.{Packing}
 use Rattle.runs.specs.Memory.{overlay}
 use Rattle.runs.specs.declared.memory.RunMemory.{RunMemory}
 use Rattle.formats.specs.declared.CellFormat.{CellFormat}

@@ -8,7 +8,8 @@ use lib.Dec.{ltb}
 use Rattle.std.specs.Options.{mapped}
 use Rattle.std.specs.declared.option.Option.{Option}
 use Rattle.std.specs.declared.option.Option.the-variants.{Some, None}
-use Rattle.runs.specs.Runs.{Run, mark-at}
+use Rattle.runs.specs.declared.run.Run.{Run}
+use Rattle.runs.specs.Runs.{mark-at}
 use Rattle.formats.specs.declared.CellFormat.{CellFormat}
 use Rattle.cells.specs.Area.{Area, inside, size, place-in, row-at, column-at}
 use Rattle.sheet.specs.declared.xf.Xf.{Xf}

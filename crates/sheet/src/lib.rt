@@ -10,6 +10,7 @@ pub use answers::PackRefusal;
 pub use answers::Put;
 pub use answers::PutRefusal;
 pub use answers::RunCounts;
+pub use memory::SheetMemory;
 pub use memory::Sheet;
 pub use walk::Styled;
 pub use walk::Walk;

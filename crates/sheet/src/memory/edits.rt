@@ -1,10 +1,13 @@
 //! Making a sheet, and changing its cells.
 ghost use mathlib.Core.Path.{_≡_};
 ghost use lib.ListN.{length};
+ghost use Rattle.std.specs.Vec.{made};
+ghost use Rattle.sheet.specs.Contents.{memory-cell-room, memory-run-room};
 ghost use Rattle.sheet.specs.Edits.{Made, PutDone, ClearDone};
 use crate::answers::ClearRefusal;
 use crate::answers::Put;
 use crate::answers::PutRefusal;
+use crate::memory::SheetMemory;
 use crate::memory::Sheet;
 use crate::xf::Xf;
 use cells::CellMemory;
@@ -13,15 +16,36 @@ use formats::CellFormat;
 use formats::KindMark;
 use runs::IdMark;
 use runs::RunMemory;
+use std::alloc::AllocError;
+use std::alloc::Global;
+
+impl SheetMemory {
+    /// Memory for a number of cells and of runs of each kind.
+    pub fn with_room(heap: Global, cells: usize, runs: usize) -> Result<SheetMemory, AllocError>
+        ensures { λ r. ⌜ made r (λ m. (memory-cell-room m ≡ cells) × (memory-run-room m ≡ runs)) ⌝ }
+    {
+        Ok(SheetMemory {
+            cells: CellMemory::new(heap, cells)?,
+            ids: vec![in heap; 0; runs]?,
+            id_ends: vec![in heap; 0; runs]?,
+            kinds: vec![in heap; CellFormat::Other; runs]?,
+            kind_ends: vec![in heap; 0; runs]?,
+        })
+    }
+}
 
 impl Sheet {
-    /// An empty sheet over that memory: room for as many cells as `limit` says, and for as many runs
-    /// of each kind as the shortest of the four has entries. Cells and runs that the memory may hold
-    /// already are forgotten.
-    pub fn new(cells: CellMemory, ids: Vec<u32>, id_ends: Vec<u64>, kinds: Vec<CellFormat>, kind_ends: Vec<u64>) -> Sheet
-        ensures { λ r. ⌜ Made cells ids «id_ends» kinds «kind_ends» r ⌝ }
+    /// An empty sheet over that memory. Cells that the memory may hold already are forgotten.
+    pub fn new(memory: SheetMemory) -> Sheet
+        ensures { λ r. ⌜ Made memory r ⌝ }
     {
-        let mut cells = cells;
+        let SheetMemory {
+            mut cells,
+            ids,
+            id_ends,
+            kinds,
+            kind_ends,
+        } = memory;
         cells.clear();
         Sheet {
             cells,

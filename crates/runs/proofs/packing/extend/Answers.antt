@@ -1,9 +1,9 @@
-use mathlib.Core.Path.{_≡_, refl}
-use mathlib.Core.Logic.{_⊎_, inl, inr, ⊎-elim}
-use Prim.Native.Nat.{_+_, _<_}
+use mathlib.Core.Path.{refl}
+use mathlib.Core.Logic.{inl, inr, ⊎-elim}
+use Prim.Native.Nat.{_<_}
 use native.Mathlib.Omega.{arith}
 use Rattle.std.proofs.shelf.Ways.{not-from-decides}
-use Rattle.runs.proofs.Steps.{written-more}
+use Rattle.runs.proofs.Steps.{Chosen, written-more}
 use Rattle.runs.proofs.packing.extend.Needs as need
 use Rattle.runs.proofs.packing.extend.Needs.{then-tail-gt0·then-same, else-tail-gt0, else-tail-gt0·by·then-tail-gt0·else-same, else-tail-gt0·by·else-tail-gt0}
 
@@ -12,7 +12,7 @@ returns g c =
     let tail = c .args .tail in
     let index = c .if-tail-gt0 .index in
     let forward : tail .end < c .args .upto = omega arith in
-    let chosen : ((index + 1 ≡ tail .count) × (tail .mark ≡ c .args .mark)) ⊎ ((index ≡ tail .count) × (0 < tail .count → tail .mark ≡ c .args .mark → ⊥)) =
+    let chosen : Chosen (tail .count) (tail .mark) (c .args .mark) index =
     elim (c .if-tail-gt0 .came) [
       | then-tail-gt0·then-same w ↦ inl (omega (arith, w .index-is), w .same .ensures .0 (w .if-same .taken))
       | else-tail-gt0 w ↦

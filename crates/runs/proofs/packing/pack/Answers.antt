@@ -1,10 +1,10 @@
-use mathlib.Core.Path.{_≡_, sym, subst, _∙_}
-use Prim.Native.Nat.{ℕ, _+_, _≤_, _<_}
+use mathlib.Core.Path.{sym, subst, _∙_}
+use Prim.Native.Nat.{_+_}
 use native.Mathlib.Omega.{arith}
 use lib.ListN.{drop}
 use Rattle.runs.specs.Marks.{mark-of}
 use Rattle.runs.proofs.Cells.{Left, nth-within, left-all, left-next, left-none, left-gap, left-mark, left-rest}
-use Rattle.runs.proofs.Steps.{written-none, written-all}
+use Rattle.runs.proofs.Steps.{Marked, written-none, written-all}
 use Rattle.runs.proofs.packing.pack.Needs as need
 
 pub loop-index-holds : need.loop-index-holds
@@ -43,9 +43,9 @@ loop-index-again g c =
     let left = left-next (c .loop-index .index) (c .loop-index .inv .1) cell (c .in-Some .ensures tt) in
     let before = c .extend-tail .ensures in
     let after = c .extend-tail-in-loop-index .ensures in
-    let before-cell : (p : ℕ) → c .loop-index .tail .end ≤ p → p < cell .place → spot p ≡ c .gap-mark-gap .result =
+    let before-cell : Marked spot (c .loop-index .tail .end) (cell .place) (c .gap-mark-gap .result) =
     λ p from-p p-end. left-gap left p from-p p-end ∙ sym (c .gap-mark-gap .ensures) in
-    let at-cell : (p : ℕ) → c .extend-tail .result .end ≤ p → p < cell .place + 1 → spot p ≡ cell .mark =
+    let at-cell : Marked spot (c .extend-tail .result .end) (cell .place + 1) (cell .mark) =
     λ p from-p p-end. left-mark left p (omega (arith, before .end)) p-end in (
       after .counted,
       subst (λ e. Left gap cells (drop (c .loop-index .index + 1) cells) e (box .size area)) (sym (after .end)) (left-rest left),
@@ -64,6 +64,6 @@ returns g c =
     let spot = mark-of (box .gap area) (box .cells area) in
     let left = left-none (c .loop-index .inv .1) (omega arith) in
     let last = c .extend-tail-2 .ensures in
-    let past-cells : (p : ℕ) → c .loop-index .tail .end ≤ p → p < c .positions-size .result → spot p ≡ c .gap-mark-gap .result =
+    let past-cells : Marked spot (c .loop-index .tail .end) (c .positions-size .result) (c .gap-mark-gap .result) =
     λ p from-p p-end. left .marks p from-p ∙ sym (c .gap-mark-gap .ensures) in
     written-all (last .written spot past-cells _ _ (c .loop-index .inv .2)) (last .end ∙ c .positions-size .ensures .value)
