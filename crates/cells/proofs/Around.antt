@@ -65,11 +65,11 @@ around-more cells n a x h e w =
       holds = λ k d l. ⊎-elim
           (λ (m : k < n). let i = w .holds k d m in (omega arith, omega arith, omega arith, omega arith))
           (λ (m : n ≤ k).
-              let s : k ≡ n = omega arith in
-              let same : x ≡ getD cells k d = e ∙ getD-default cells n x d h ∙ ap (λ j. getD cells j d) (sym s) in
-              let r = ap row same in
-              let c = ap column same in
-              (omega arith, omega arith, omega arith, omega arith))
+          let s : k ≡ n = omega arith in
+          let same : x ≡ getD cells k d = e ∙ getD-default cells n x d h ∙ ap (λ j. getD cells j d) (sym s) in
+          let r = ap row same in
+          let c = ap column same in
+          (omega arith, omega arith, omega arith, omega arith))
           (cases-lt k n);
       on-top = one-of cells row (a .top) (row x) _ (w .on-top) (touched cells row n x h e) (min-either (a .top) (row x));
       on-left = one-of cells column (a .left) (column x) _ (w .on-left) (touched cells column n x h e) (min-either (a .left) (column x));
@@ -82,11 +82,11 @@ pub word-cell : (cells : List Cell) (r c : ℕ) → isSome (words-of cells r c) 
 word-cell [] r c e = absurd (true≢false (sym e))
 word-cell (x ∷ xs) r c e = ⊎-elim
     (λ (t : (eqb (row x) r && eqb (column x) c) ≡ true).
-        let p = and-parts (eqb (row x) r) (eqb (column x) c) t in
-        (0, omega arith, λ d. (eqb-true (row x) r (p .0), eqb-true (column x) c (p .1))))
+    let p = and-parts (eqb (row x) r) (eqb (column x) c) t in
+    (0, omega arith, λ d. (eqb-true (row x) r (p .0), eqb-true (column x) c (p .1))))
     (λ (f : (eqb (row x) r && eqb (column x) c) ≡ false).
-        let rest = word-cell xs r c (sym (ap isSome (cond-false _ _ _ f)) ∙ e) in
-        (suc (rest .0), (let l = rest .1 in omega arith), rest .2))
+    let rest = word-cell xs r c (sym (ap isSome (cond-false _ _ _ f)) ∙ e) in
+    (suc (rest .0), (let l = rest .1 in omega arith), rest .2))
     (cases-bool (eqb (row x) r && eqb (column x) c))
 
 -- a cell gives its position a word
@@ -97,9 +97,9 @@ cell-word (x ∷ xs) (suc k) d h =
     let r = row (getD xs k d) in
     let c = column (getD xs k d) in
     ⊎-elim
-        (λ (t : (eqb (row x) r && eqb (column x) c) ≡ true). ap isSome (cond-true _ _ _ t))
-        (λ (f : (eqb (row x) r && eqb (column x) c) ≡ false). ap isSome (cond-false _ _ _ f) ∙ cell-word xs k d (omega arith))
-        (cases-bool (eqb (row x) r && eqb (column x) c))
+    (λ (t : (eqb (row x) r && eqb (column x) c) ≡ true). ap isSome (cond-true _ _ _ t))
+    (λ (f : (eqb (row x) r && eqb (column x) c) ≡ false). ap isSome (cond-false _ _ _ f) ∙ cell-word xs k d (omega arith))
+    (cases-bool (eqb (row x) r && eqb (column x) c))
 
 row-word : (cells : List Cell) (d : Cell) (n : ℕ) → Touches cells row n → (c : ℕ) × (isSome (words-of cells n c) ≡ true)
 row-word cells d n (k, h, e) =

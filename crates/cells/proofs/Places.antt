@@ -20,7 +20,7 @@ inside-true a r c e =
 pub true-inside : (a : Area) (r c : ℕ) → Inside a r c → inside a r c ≡ true
 true-inside a r c (t, b, l, i) =
     and-from (leb (a .top) r && leb r (a .bottom)) (leb (a .left) c && leb c (a .right))
-        (and-from _ _ (le-leb (a .top) r t) (le-leb r (a .bottom) b)) (and-from _ _ (le-leb (a .left) c l) (le-leb c (a .right) i))
+    (and-from _ _ (le-leb (a .top) r t) (le-leb r (a .bottom) b)) (and-from _ _ (le-leb (a .left) c l) (le-leb c (a .right) i))
 
 module _ (a : Area) where
   -- a position inside has one of the numbers below the size
@@ -50,13 +50,13 @@ module _ (a : Area) where
   pub place-later : (r c r′ c′ : ℕ) → Inside a r c → Inside a r′ c′ → (r ≤ r′) → (r ≡ r′ → c < c′) → place-in a r c < place-in a r′ c′
   place-later r c r′ c′ (t, b, l, i) (t′, b′, l′, i′) rows columns = ⊎-elim
       (λ (less : r < r′).
-          let m = mul-le (r - a .top + 1) (width a) (r′ - a .top) (width a) (omega arith) (omega arith) in
-          let n = add-mul (r - a .top) 1 (width a) in
-          omega arith)
+      let m = mul-le (r - a .top + 1) (width a) (r′ - a .top) (width a) (omega arith) (omega arith) in
+      let n = add-mul (r - a .top) 1 (width a) in
+      omega arith)
       (λ (more : r′ ≤ r).
-          let same : r ≡ r′ = omega arith in
-          let later = columns same in
-          omega (arith, ap (λ x. (x - a .top) * width a) same))
+      let same : r ≡ r′ = omega arith in
+      let later = columns same in
+      omega (arith, ap (λ x. (x - a .top) * width a) same))
       (cases-lt r r′)
 
   -- the next place is the next column's, or that of the next row's first column after the last

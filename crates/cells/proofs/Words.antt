@@ -95,11 +95,11 @@ pub words-removed : (xs : List Cell) (i : ℕ) (p : Position) (d : Cell) (r c : 
 words-removed [] i p d r c h free e after = absurd (omega arith)
 words-removed (y ∷ ys) zero p d r c h free e after = ⊎-elim
     (λ (t : here p r c ≡ true).
-        let parts = and-parts (eqb (p .row) r) (eqb (p .column) c) t in
-        let row = eqb-true (p .row) r (parts .0) in
-        let column = eqb-true (p .column) c (parts .1) in
-        ap (λ a. words-of ys a c) (sym row) ∙ ap (words-of ys (p .row)) (sym column)
-        ∙ words-missing ys p (λ k e′ l. after (suc k) e′ (omega arith) (omega arith)) ∙ sym (cond-true _ _ _ t))
+    let parts = and-parts (eqb (p .row) r) (eqb (p .column) c) t in
+    let row = eqb-true (p .row) r (parts .0) in
+    let column = eqb-true (p .column) c (parts .1) in
+    ap (λ a. words-of ys a c) (sym row) ∙ ap (words-of ys (p .row)) (sym column)
+    ∙ words-missing ys p (λ k e′ l. after (suc k) e′ (omega arith) (omega arith)) ∙ sym (cond-true _ _ _ t))
     (λ (f : here p r c ≡ false). let g = here-same (y .at) p r c e ∙ f in simp (f, g))
     (cases-bool (here p r c))
 words-removed (y ∷ ys) (suc i) p d r c h free e after =

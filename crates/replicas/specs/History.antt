@@ -3,8 +3,7 @@
 use mathlib.Core.Path.{_≡_}
 use mathlib.Core.List.{List, [], _∷_}
 use mathlib.Core.Bool.{true}
-use Prim.Native.Nat.{ℕ}
-use lib.ListN.{length}
+use Prim.Native.Nat.{ℕ, _<_}
 use Rattle.std.specs.Options.{isSome}
 use Rattle.std.specs.declared.option.Option.the-variants.{None}
 use Rattle.cells.specs.Words.{Words}
@@ -38,7 +37,10 @@ last-words P C h = after P C h .words
 abbrev pub kept-after : ℕ → ℕ → List Call → ℕ
 kept-after P C h = after P C h .count
 
--- there is a list of positions, none twice, that are just those with a word, and it has n members
-abbrev Member : ℕ → ℕ → List (ℕ × ℕ) → Type 0
-Member r c [] = ⊥
-Member r c (p ∷ ps) = ((p .0 ≡ r) × (p .1 ≡ c)) mathlib.Core.Logic.⊎ Member r c ps
+-- The positions that have a word can be numbered from 0 up to n, each once.
+pub record Counts (words : Words) (n : ℕ) : Type 0 where
+  pub row : ℕ → ℕ
+  pub column : ℕ → ℕ
+  pub have : (k : ℕ) → k < n → isSome (words (row k) (column k)) ≡ true
+  pub all : (r c : ℕ) → isSome (words r c) ≡ true → (k : ℕ) × ((k < n) × (row k ≡ r) × (column k ≡ c))
+  pub once : (j k : ℕ) → j < n → k < n → row j ≡ row k → column j ≡ column k → j ≡ k

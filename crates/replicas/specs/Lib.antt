@@ -1,3 +1,4 @@
 pub mod History
 pub mod Latest
+pub mod Stands
 pub mod Promise

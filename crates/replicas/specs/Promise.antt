@@ -22,7 +22,26 @@ use Rattle.sheet.specs.Contents.{area, id-runs, kind-runs}
 use Rattle.sheet.specs.Packs.{Packs, pack-answer}
 use Rattle.sheet.specs.Reads.{Seen, got, kind-there, walked}
 use Rattle.replicas.specs.declared.call.Call.{Call}
+use Rattle.replicas.specs.History.{last-words, kept-after, Counts}
 use Rattle.replicas.specs.Latest.{Latest, words-at}
+
+-- Two sheets have the same box and the same runs of each kind.
+pub record SameRuns (s t : Sheet) : Type 0 where
+  pub box : area s ≡ area t
+  pub ids : id-runs s ≡ id-runs t
+  pub kinds : kind-runs s ≡ kind-runs t
+
+-- What walk gives at step k where get answers by `style`: the k-th position of the box in row order with get's style, and none
+-- after the last.
+abbrev pub step : {S : Type 0} → (ℕ → ℕ → Option S) → Option Area → ℕ → Option (Seen S)
+step style None k = None
+step style (Some a) k =
+    cond (ltb k (size a)) (Some (record { row = row-at a k; column = column-at a k; style = style (row-at a k) (column-at a k) })) None
+
+-- a position lies in the box, if there is one
+abbrev pub In : Option Area → ℕ → ℕ → Type 0
+In None r c = ⊥
+In (Some a) r c = Inside a r c
 
 module _ {S : Type 0} (palette : List (Xf S)) where
   -- A position in the box answers with the style and the date kind of xf n, and there is such an xf.
@@ -31,21 +50,12 @@ module _ {S : Type 0} (palette : List (Xf S)) where
     pub style : got palette s r c ≡ style-at palette n
     pub kind : kind-there s r c ≡ Some (kind-at palette n)
 
-  -- what walk gives at step k, where a box has these positions: the k-th of them in row order, with get's style
-  abbrev pub step : Sheet → Option Area → ℕ → Option (Seen S)
-  step s None k = None
-  step s (Some a) k =
-      cond (ltb k (size a)) (Some (record { row = row-at a k; column = column-at a k; style = got palette s (row-at a k) (column-at a k) })) None
-
-  -- whether a position lies in the box, if there is one
-  abbrev pub In : Option Area → ℕ → ℕ → Type 0
-  In None r c = ⊥
-  In (Some a) r c = Inside a r c
-
   -- One replica, with room for C cells and R runs, after a list of calls: what it holds and answers.
   pub record Replica (C R : ℕ) (calls : List Call) (s : Sheet) : Type 0 where
     pub latest : Option (List Call)
     pub is-latest : Latest palette C R (reverse calls) latest
+    -- as many cells count against C as positions have a word
+    pub counted : Counts (last-words (length palette) C (reverse calls)) (kept-after (length palette) C (reverse calls))
     -- the box is the least around the cells kept at the latest accepted pack, and the tables hold packing's lists for it
     pub bounds : Bounds (words-at palette C R latest) (area s)
     pub ids : Packs (λ id. id) (words-at palette C R latest) (area s) (id-runs s)
@@ -53,13 +63,11 @@ module _ {S : Type 0} (palette : List (Xf S)) where
     -- get and kind answer inside the box by the last word, or 0 for none, and none outside; walk gives the box with get's styles
     pub inside : (r c : ℕ) → In (area s) r c → Answers s r c (valueOr (words-at palette C R latest r c) 0)
     pub outside : (r c : ℕ) → (In (area s) r c → ⊥) → (got palette s r c ≡ None) × (kind-there s r c ≡ None)
-    pub walks : (k : ℕ) → walked palette s k ≡ step s (area s) k
+    pub walks : (k : ℕ) → walked palette s k ≡ step (got palette s) (area s) k
 
   -- Two sheets hold and answer the same.
   pub record Alike (s t : Sheet) : Type 0 where
-    pub box : area s ≡ area t
-    pub ids : id-runs s ≡ id-runs t
-    pub kinds : kind-runs s ≡ kind-runs t
+    pub held : SameRuns s t
     pub gets : (r c : ℕ) → got palette s r c ≡ got palette t r c
     pub kind-answers : (r c : ℕ) → kind-there s r c ≡ kind-there t r c
     pub walks : (k : ℕ) → walked palette s k ≡ walked palette t k
@@ -75,8 +83,8 @@ pub record Promise {S : Type 0} (M : Type 0) (palette : List (Xf S)) (C R : ℕ)
   pub floor : Replica palette C′ R′ calls′ t
   -- (a) with its converse: the replicas are alike exactly if their last words are the same
   pub alike : SameWords palette C R C′ R′ (loader .latest) (floor .latest) → Alike palette s t
-  pub unlike : Alike palette s t → SameWords palette C R C′ R′ (loader .latest) (floor .latest)
-  pub answer : Decides agree (Alike palette s t)
+  pub unlike : SameRuns s t → SameWords palette C R C′ R′ (loader .latest) (floor .latest)
+  pub answer : Decides agree (SameRuns s t)
   -- (c) over every kind of mark, and whatever marks the positions have: there is packing's list, and every other that spells
   -- them is longer; pack is refused exactly if one of its lists has more than R runs
   pub shortest : (spot : ℕ → M) (n : ℕ) → (runs : List (Run M)) × (Packing spot n runs × Shortest spot n runs)

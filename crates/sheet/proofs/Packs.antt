@@ -41,15 +41,15 @@ least-held a xs ys e least k d h =
 
 -- what spells the marks of the cells spells those of their words
 pub packed-words : {M : Type 0} (a : Area) (mark : ℕ → M) (xs ys : List Cell) (runs : List (Run M)) → xs ≡ ys → Held a xs
-  → Packing (mark-of (mark 0) (map (placed a mark) xs)) (size a) runs → Packing (spot mark (words-of ys) a) (size a) runs
+    → Packing (mark-of (mark 0) (map (placed a mark) xs)) (size a) runs → Packing (spot mark (words-of ys) a) (size a) runs
 packed-words a mark xs ys runs e held =
     packing-same (mark-of (mark 0) (map (placed a mark) xs)) (spot mark (words-of ys) a) (size a) runs
-        (λ p h. mark-of-word a mark xs p held ∙ ap (λ zs. mark (valueOr (words-of zs (row-at a p) (column-at a p)) 0)) e)
+    (λ p h. mark-of-word a mark xs p held ∙ ap (λ zs. mark (valueOr (words-of zs (row-at a p) (column-at a p)) 0)) e)
 
 -- a memory with room for packing's list holds it
 pub holds-packed : {M : Type 0} (spot : ℕ → M) (n needed : ℕ) (m m′ : RunMemory M)
-  → (p : Packed spot n (vec-items (m .marks)) (vec-items (m′ .marks)) (vec-items (m .ends)) (vec-items (m′ .ends)) needed)
-  → m′ .used ≡ min needed (room m) → vec-len (m′ .marks) ≡ vec-len (m .marks) → vec-len (m′ .ends) ≡ vec-len (m .ends) → needed ≤ room m → Holds (p .runs) m m′
+    → (p : Packed spot n (vec-items (m .marks)) (vec-items (m′ .marks)) (vec-items (m .ends)) (vec-items (m′ .ends)) needed)
+    → m′ .used ≡ min needed (room m) → vec-len (m′ .marks) ≡ vec-len (m .marks) → vec-len (m′ .ends) ≡ vec-len (m .ends) → needed ≤ room m → Holds (p .runs) m m′
 holds-packed spot n needed m m′ p used-by marks-len ends-len fits =
     record {
       marks-are = p .marks-after;
@@ -65,10 +65,13 @@ holds-packed spot n needed m m′ p used-by marks-len ends-len fits =
   where
     marks-long : vec-len (m .marks) ≡ length (vec-items (m .marks))
     marks-long = m .marks .ok .0
+
     ends-long : vec-len (m .ends) ≡ length (vec-items (m .ends))
     ends-long = m .ends .ok .0
+
     is : needed ≡ length (p .runs)
     is = p .length-is
+
     used-is : m′ .used ≡ length (p .runs)
     used-is = omega arith
 

@@ -48,9 +48,11 @@ module _ {M : Type 0} (a : Area) (mark : ℕ → M) where
   in-order-from : (from : ℕ) (x : Cell) (xs : List Cell) → from ≤ place-in a (x .at .row) (x .at .column) → Ordered (x ∷ xs) → Held a (x ∷ xs) → InOrder from (map (placed a mark) (x ∷ xs)) (size a)
   in-order-from from x [] first o h =
       let b = place-below a (x .at .row) (x .at .column) (h 0 x (omega arith)) in (first, b, omega arith)
-  in-order-from from x (y ∷ ys) first o h =
-      (first, place-below a (x .at .row) (x .at .column) (h 0 x (omega arith)),
-        in-order-from (place-in a (x .at .row) (x .at .column) + 1) y ys (later x y ys o h) (ordered-rest x (y ∷ ys) o) (held-rest a x (y ∷ ys) h))
+  in-order-from from x (y ∷ ys) first o h = (
+    first,
+    place-below a (x .at .row) (x .at .column) (h 0 x (omega arith)),
+    in-order-from (place-in a (x .at .row) (x .at .column) + 1) y ys (later x y ys o h) (ordered-rest x (y ∷ ys) o) (held-rest a x (y ∷ ys) h),
+  )
 
   pub in-order : (xs : List Cell) → Ordered xs → Held a xs → InOrder 0 (map (placed a mark) xs) (size a)
   in-order [] o h = omega arith
@@ -60,17 +62,17 @@ module _ {M : Type 0} (a : Area) (mark : ℕ → M) where
   same-place : (x : Cell) (p : ℕ) → Inside a (x .at .row) (x .at .column) → eqb (place-in a (x .at .row) (x .at .column)) p ≡ (eqb (x .at .row) (row-at a p) && eqb (x .at .column) (column-at a p))
   same-place x p i = ⊎-elim
       (λ (t : eqb (place-in a (x .at .row) (x .at .column)) p ≡ true).
-          let e = eqb-true (place-in a (x .at .row) (x .at .column)) p t in
-          let r = sym (row-place a (x .at .row) (x .at .column) i) ∙ ap (row-at a) e in
-          let c = sym (column-place a (x .at .row) (x .at .column) i) ∙ ap (column-at a) e in
-          t ∙ sym (and-from _ _ (eq-eqb _ _ r) (eq-eqb _ _ c)))
+      let e = eqb-true (place-in a (x .at .row) (x .at .column)) p t in
+      let r = sym (row-place a (x .at .row) (x .at .column) i) ∙ ap (row-at a) e in
+      let c = sym (column-place a (x .at .row) (x .at .column) i) ∙ ap (column-at a) e in
+      t ∙ sym (and-from _ _ (eq-eqb _ _ r) (eq-eqb _ _ c)))
       (λ (f : eqb (place-in a (x .at .row) (x .at .column)) p ≡ false). ⊎-elim
-          (λ (t : (eqb (x .at .row) (row-at a p) && eqb (x .at .column) (column-at a p)) ≡ true).
-              let parts = and-parts (eqb (x .at .row) (row-at a p)) (eqb (x .at .column) (column-at a p)) t in
-              let e = ap₂ (place-in a) (eqb-true _ _ (parts .0)) (eqb-true _ _ (parts .1)) ∙ place-at a p in
-              absurd (eqb-false _ _ f e))
-          (λ (g : (eqb (x .at .row) (row-at a p) && eqb (x .at .column) (column-at a p)) ≡ false). f ∙ sym g)
-          (cases-bool (eqb (x .at .row) (row-at a p) && eqb (x .at .column) (column-at a p))))
+      (λ (t : (eqb (x .at .row) (row-at a p) && eqb (x .at .column) (column-at a p)) ≡ true).
+      let parts = and-parts (eqb (x .at .row) (row-at a p)) (eqb (x .at .column) (column-at a p)) t in
+      let e = ap₂ (place-in a) (eqb-true _ _ (parts .0)) (eqb-true _ _ (parts .1)) ∙ place-at a p in
+      absurd (eqb-false _ _ f e))
+      (λ (g : (eqb (x .at .row) (row-at a p) && eqb (x .at .column) (column-at a p)) ≡ false). f ∙ sym g)
+      (cases-bool (eqb (x .at .row) (row-at a p) && eqb (x .at .column) (column-at a p))))
       (cases-bool (eqb (place-in a (x .at .row) (x .at .column)) p))
 
   -- the mark at a place is that of the word there, or of id 0 for none
@@ -80,20 +82,20 @@ module _ {M : Type 0} (a : Area) (mark : ℕ → M) where
       let same = same-place x p (h 0 x (omega arith)) in
       let rest = mark-of-word xs p (held-rest a x xs h) in
       ⊎-elim
-          (λ (t : eqb (place-in a (x .at .row) (x .at .column)) p ≡ true).
-              cond-true _ _ _ t ∙ ap (λ w. mark (valueOr w 0)) (sym (cond-true _ _ _ (sym same ∙ t))))
-          (λ (f : eqb (place-in a (x .at .row) (x .at .column)) p ≡ false).
-              cond-false _ _ _ f ∙ rest ∙ ap (λ w. mark (valueOr w 0)) (sym (cond-false _ _ _ (sym same ∙ f))))
-          (cases-bool (eqb (place-in a (x .at .row) (x .at .column)) p))
+      (λ (t : eqb (place-in a (x .at .row) (x .at .column)) p ≡ true).
+      cond-true _ _ _ t ∙ ap (λ w. mark (valueOr w 0)) (sym (cond-true _ _ _ (sym same ∙ t))))
+      (λ (f : eqb (place-in a (x .at .row) (x .at .column)) p ≡ false).
+      cond-false _ _ _ f ∙ rest ∙ ap (λ w. mark (valueOr w 0)) (sym (cond-false _ _ _ (sym same ∙ f))))
+      (cases-bool (eqb (place-in a (x .at .row) (x .at .column)) p))
 
   -- what is read at an index is the cell there, with its place and its mark
   pub nth-placed : (xs : List Cell) (i : ℕ) (d : Cell) (row column place : ℕ) (m : M) → i < length xs → Held a xs → row ≡ getD xs i d .at .row → column ≡ getD xs i d .at .column
-    → Some place ≡ place-of a row column → m ≡ mark (getD xs i d .id) → Some (record { place = place; mark = m }) ≡ nth (map (placed a mark) xs) i
+      → Some place ≡ place-of a row column → m ≡ mark (getD xs i d .id) → Some (record { place = place; mark = m }) ≡ nth (map (placed a mark) xs) i
   nth-placed xs i d row column place m h held r c e em =
       let x = getD xs i d in
       let within : i < length (map (placed a mark) xs) = simp length-map h in
       let at : Some place ≡ Some (place-in a (x .at .row) (x .at .column)) =
-          e ∙ ap₂ (place-of a) r c ∙ cond-true _ _ _ (true-inside a (x .at .row) (x .at .column) (held i d h)) in
+      e ∙ ap₂ (place-of a) r c ∙ cond-true _ _ _ (true-inside a (x .at .row) (x .at .column) (held i d h)) in
       let same : place ≡ place-in a (x .at .row) (x .at .column) = cc in
       let cell : _≡_ {A = Placed M} (record { place = place; mark = m }) (placed a mark x) = λ j. record { place = same j; mark = em j } in
       ap Some cell ∙ sym (nth-getD (map (placed a mark) xs) i (placed a mark d) within ∙ ap Some (getD-map (placed a mark) xs i d (placed a mark d) h))

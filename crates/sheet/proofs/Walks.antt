@@ -22,8 +22,8 @@ ended-later [] q p h e = refl
 ended-later (r ∷ rs) q p h e = ⊎-elim
     (λ (t : ltb q (r .end) ≡ true). absurd (true≢false (sym (ap isSome (cond-true _ _ _ t)) ∙ e)))
     (λ (f : ltb q (r .end) ≡ false).
-        let past = ltb-false q (r .end) f in
-        ap isSome (cond-false _ _ _ (le-ltb p (r .end) (omega arith))) ∙ ended-later rs q p h (sym (ap isSome (cond-false _ _ _ f)) ∙ e))
+    let past = ltb-false q (r .end) f in
+    ap isSome (cond-false _ _ _ (le-ltb p (r .end) (omega arith))) ∙ ended-later rs q p h (sym (ap isSome (cond-false _ _ _ f)) ∙ e))
     (cases-bool (ltb q (r .end)))
 
 none-from-test : {M : Type 0} (o : Option M) → isSome o ≡ false → o ≡ None
@@ -39,9 +39,9 @@ level-mark runs q p h level = ⊎-elim
 
 -- what stands at a place inside the box
 pub seen-there : {S : Type 0} (palette : List (Xf S)) (a : Area) (runs : List (Run ℕ)) (p row column : ℕ) (style : Option S) → p < size a → row ≡ row-at a p → column ≡ column-at a p → style ≡ styled palette (mark-at runs p)
-  → Some (record { row = row; column = column; style = style }) ≡ seen-at palette a runs (p + 0)
+    → Some (record { row = row; column = column; style = style }) ≡ seen-at palette a runs (p + 0)
 seen-there {S} palette a runs p row column style h r c s =
     let cell : _≡_ {A = Seen S} (record { row = row; column = column; style = style }) (record { row = row-at a p; column = column-at a p; style = styled palette (mark-at runs p) }) =
-        λ i. record { row = r i; column = c i; style = s i } in
+    λ i. record { row = r i; column = c i; style = s i } in
     let here : p ≡ p + 0 = omega arith in
     ap Some cell ∙ sym (cond-true _ _ _ (lt-ltb p (size a) h)) ∙ ap (seen-at palette a runs) here

@@ -33,8 +33,8 @@ module _ (P C : ℕ) (words : Words) (kept row column id : ℕ) where
   abbrev pub put-answer : Result Put PutRefusal
   put-answer =
       cond (on-sheet row column)
-          (cond (ignored P id) (Ok Ignored) (cond (room-for C words kept row column) (Ok Kept) (Err put.Full)))
-          (Err put.OffSheet)
+      (cond (ignored P id) (Ok Ignored) (cond (room-for C words kept row column) (Ok Kept) (Err put.Full)))
+      (Err put.OffSheet)
 
   -- whether the put keeps its cell
   abbrev pub keeps : Bool

@@ -100,10 +100,16 @@ pub impl fmt::Display for PackRefusal as PackRefusalDisplay {
     fn fmt<W: fmt::Write>(&self, f: &mut fmt::Formatter<W>) -> fmt::Result {
         match *self {
             PackRefusal::IdRuns { needed } => {
-                write!(f, "refused 12 {needed} (so many runs of style ids are needed)")
+                write!(
+                    f,
+                    "refused 12 {needed} (so many runs of style ids are needed)"
+                )
             }
             PackRefusal::KindRuns { needed } => {
-                write!(f, "refused 13 {needed} (so many runs of date kinds are needed)")
+                write!(
+                    f,
+                    "refused 13 {needed} (so many runs of date kinds are needed)"
+                )
             }
         }
     }

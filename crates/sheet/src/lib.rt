@@ -6,12 +6,15 @@ mod walk;
 mod xf;
 
 pub use answers::ClearRefusal;
+pub use answers::ClearRefusalDisplay;
 pub use answers::PackRefusal;
+pub use answers::PackRefusalDisplay;
 pub use answers::Put;
 pub use answers::PutRefusal;
+pub use answers::PutRefusalDisplay;
 pub use answers::RunCounts;
-pub use memory::SheetMemory;
 pub use memory::Sheet;
+pub use memory::SheetMemory;
 pub use walk::Styled;
 pub use walk::Walk;
 pub use walk::WalkIterator;

@@ -1,7 +1,7 @@
 //! What a bounding box is asked.
 ghost use mathlib.Core.Path.{_≡_};
 ghost use Prim.Native.Nat.{_≤_, _<_, min, max};
-ghost use Rattle.std.specs.Options.{Cases};
+ghost use Rattle.std.specs.Orderings.{Decides};
 ghost use Rattle.cells.specs.Area.{Area, extent, width, size, place-in, place-of, row-at, column-at, grown};
 use crate::bounding_box::BoundingBox;
 use crate::position::Position;
@@ -70,5 +70,14 @@ impl BoundingBox {
         }
         let rows = u64::from(row - self.start.row);
         Some(rows * self.width() + u64::from(column - self.start.column))
+    }
+
+    /// Whether two boxes are the same.
+    pub fn same(&self, other: &BoundingBox) -> bool
+        ensures { λ r. ⌜ Decides r (extent (now (self .entry)) ≡ extent (now (other .entry))) ⌝ }
+    {
+        let starts = self.start.row == other.start.row && self.start.column == other.start.column;
+        let ends = self.end.row == other.end.row && self.end.column == other.end.column;
+        starts && ends
     }
 }

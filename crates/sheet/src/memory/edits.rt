@@ -7,8 +7,8 @@ ghost use Rattle.sheet.specs.Edits.{Made, PutDone, ClearDone};
 use crate::answers::ClearRefusal;
 use crate::answers::Put;
 use crate::answers::PutRefusal;
-use crate::memory::SheetMemory;
 use crate::memory::Sheet;
+use crate::memory::SheetMemory;
 use crate::xf::Xf;
 use cells::CellMemory;
 use cells::Position;
@@ -56,7 +56,13 @@ impl Sheet {
     }
 
     /// Keeps a style id at a position, in the place of an earlier one there.
-    pub fn put<S>(&mut self, palette: &[Xf<S>], row: u32, column: u32, id: u32) -> Result<Put, PutRefusal>
+    pub fn put<S>(
+        &mut self,
+        palette: &[Xf<S>],
+        row: u32,
+        column: u32,
+        id: u32,
+    ) -> Result<Put, PutRefusal>
         ensures { λ r. ⌜ PutDone (length (now (palette .entry))) (now (self .entry)) row column id r (now (self .exit)) ⌝ }
     {
         let Some(at) = Position::new(row, column) else {

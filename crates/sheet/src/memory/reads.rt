@@ -22,7 +22,12 @@ use runs::RunTable;
 use runs::RunWalk;
 
 /// The mark that the runs of a box give a position, or none outside it.
-fn mark_there<M: Mark>(area: Option<BoundingBox>, runs: &RunMemory<M>, row: u32, column: u32) -> Option<M>
+fn mark_there<M: Mark>(
+    area: Option<BoundingBox>,
+    runs: &RunMemory<M>,
+    row: u32,
+    column: u32,
+) -> Option<M>
     ensures { λ r. ⌜ r ≡ mark-there (mapped extent area) (held (now (runs .entry))) row column ⌝ }
 {
     let place = area?.place(row, column)?;

@@ -33,4 +33,4 @@ pub returns : need.returns
 returns c =
     let cells = c .as-slice-cells .result .now in
     subst (λ (xs : List Cell). Least (words-of xs) (extent (c .loop-cell .area))) (c .as-slice-cells .ensures .value)
-        (around-least cells (c .loop-cell .cell-index) (extent (c .loop-cell .area)) (c .index-cells-0 .result) (c .loop-cell-test .left) (c .loop-cell .inv))
+    (around-least cells (c .loop-cell .cell-index) (extent (c .loop-cell .area)) (c .index-cells-0 .result) (c .loop-cell-test .left) (c .loop-cell .inv))

@@ -47,10 +47,11 @@ ghost-self-then-len-self c =
     let room : vec-len (m .cells) < vec-cap (m .cells) = let h = m .room in omega arith in
     let done = c .insert .ensures .succeeds room in
     let one-more = c .insert .ensures .len ∙ cond-true _ _ _ done in
-    let places = c .insert .ensures .places in
-    (ordered-inserted (m .cells .items) (vec-items v) (c .in-Err .index) (m .ordered) x (omega arith) (places .0 x done) (λ k h. places .1 k x h) (λ k h. places .2 k x done h)
-        (λ k h. f .before k x h) (λ k h l. f .after k x h l) (f .within),
-      (omega arith, (let same = c .insert .ensures .in-place room .1 .0 in let h = m .room in omega arith, tt)))
+    let places = c .insert .ensures .places in (
+      ordered-inserted (m .cells .items) (vec-items v) (c .in-Err .index) (m .ordered) x (omega arith) (places .0 x done) (λ k h. places .1 k x h) (λ k h. places .2 k x done h)
+          (λ k h. f .before k x h) (λ k h l. f .after k x h l) (f .within),
+      (omega arith, (let same = c .insert .ensures .in-place room .1 .0 in let h = m .room in omega arith, tt)),
+    )
 
 pub returns-then-len-self : need.returns-then-len-self
 returns-then-len-self c =

@@ -15,9 +15,10 @@ ghost-self c =
     let d = c .remove .result in
     let places = c .remove .ensures .places in
     let long = v .ok .0 in
-    let was = m .cells .ok .0 in
-    (ordered-removed (m .cells .items) (vec-items v) (c .in-Ok .index) (m .ordered) d (omega arith) (λ k h. places .0 k d h) (λ k h. places .1 k d h),
-      (omega arith, (omega arith, tt)))
+    let was = m .cells .ok .0 in (
+      ordered-removed (m .cells .items) (vec-items v) (c .in-Ok .index) (m .ordered) d (omega arith) (λ k h. places .0 k d h) (λ k h. places .1 k d h),
+      (omega arith, (omega arith, tt)),
+    )
 
 pub returns-in-Ok : need.returns-in-Ok
 returns-in-Ok c =

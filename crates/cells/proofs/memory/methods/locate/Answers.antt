@@ -29,8 +29,9 @@ returns-else-index-cells c =
       within = c .rank-index .ensures .within;
       before = c .rank-index .ensures .before;
       after = elim (c .else-index-cells .came) [
-          else-index-cells·by·then-index-cells·else-number w ↦
-              past-all cells (c .pre) i (number (c .args .at)) (c .rank-index .ensures .from)
-                  (λ h d e. w .if-number .left (let same = ap (λ (x : Cell). number (x .at)) (getD-default cells i d (w .index-cells-index .result) h) in omega arith))
-        | else-index-cells·by·else-index-cells w ↦ λ k d h l. let m = w .if-index-cells .left in omega arith ];
+        | else-index-cells·by·then-index-cells·else-number w ↦
+            past-all cells (c .pre) i (number (c .args .at)) (c .rank-index .ensures .from)
+            (λ h d e. w .if-number .left (let same = ap (λ (x : Cell). number (x .at)) (getD-default cells i d (w .index-cells-index .result) h) in omega arith))
+        | else-index-cells·by·else-index-cells w ↦ λ k d h l. let m = w .if-index-cells .left in omega arith
+      ];
     }

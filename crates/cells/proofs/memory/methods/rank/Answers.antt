@@ -18,15 +18,20 @@ pub loop-low-again-then-number-wanted-2 : need.loop-low-again-then-number-wanted
 loop-low-again-then-number-wanted-2 c =
     let cells = c .args .cells .now in
     let middle = c .loop-low .low + (c .loop-low .high - c .loop-low .low) / 2 in
-    let within : middle < length cells = omega arith in
-    (omega arith, omega arith,
+    let within : middle < length cells = omega arith in (
+      omega arith,
+      omega arith,
       λ k d h. all-before cells (c .pre) middle (c .number-wanted .result) (c .index-cells-middle .result) within (omega arith) k d (omega arith),
-      c .loop-low .inv .3)
+      c .loop-low .inv .3,
+    )
 
 pub loop-low-again : need.loop-low-again
 loop-low-again c =
     let cells = c .args .cells .now in
     let middle = c .loop-low .low + (c .loop-low .high - c .loop-low .low) / 2 in
-    let within : middle < length cells = omega arith in
-    (omega arith, omega arith, c .loop-low .inv .2,
-      λ k d h l. none-from cells (c .pre) middle (c .number-wanted .result) (c .index-cells-middle .result) within (omega arith) k d (omega arith) l)
+    let within : middle < length cells = omega arith in (
+      omega arith,
+      omega arith,
+      c .loop-low .inv .2,
+      λ k d h l. none-from cells (c .pre) middle (c .number-wanted .result) (c .index-cells-middle .result) within (omega arith) k d (omega arith) l,
+    )

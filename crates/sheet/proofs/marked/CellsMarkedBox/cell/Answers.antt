@@ -20,10 +20,10 @@ pub unreachable-requires : need.unreachable-requires
 unreachable-requires g c κs =
     let b = c .args .self .now in
     place-there (extent (b .area)) (b .cells .now) (c .args .index) (c .index-self-index .result) (c .row .result) (c .column .result)
-        (omega arith) (held-from (extent (b .area)) (b .cells .now) (b .held)) (c .row .ensures) (c .column .ensures) (c .in-rest .ensures tt)
+    (omega arith) (held-from (extent (b .area)) (b .cells .now) (b .held)) (c .row .ensures) (c .column .ensures) (c .in-rest .ensures tt)
 
 pub returns : need.returns
 returns g c =
     let b = c .args .self .now in
     nth-placed (extent (b .area)) (g .K·Marking .of (b .marking)) (b .cells .now) (c .args .index) (c .index-self-index .result) (c .row .result) (c .column .result) (c .in-Some .place) (c .mark-of-mark .result)
-        (omega arith) (held-from (extent (b .area)) (b .cells .now) (b .held)) (c .row .ensures) (c .column .ensures) (c .in-Some .ensures tt) (c .mark-of-mark .ensures)
+    (omega arith) (held-from (extent (b .area)) (b .cells .now) (b .held)) (c .row .ensures) (c .column .ensures) (c .in-Some .ensures tt) (c .mark-of-mark .ensures)

@@ -89,9 +89,9 @@ returns g c =
     let wrote-ids = c .write .ensures .packed in
     let wrote-kinds = c .write-2 .ensures .packed in
     let id-count : c .needed-id-runs .result ≡ length (wrote-ids .runs) =
-        ids .1 .1 ∙ ap length (one-packing _ (size a) (ids .0) (wrote-ids .runs) (ids .1 .0) (wrote-ids .packing)) in
+    ids .1 .1 ∙ ap length (one-packing _ (size a) (ids .0) (wrote-ids .runs) (ids .1 .0) (wrote-ids .packing)) in
     let kind-count : c .needed-kind-runs .result ≡ length (wrote-kinds .runs) =
-        kinds .1 .1 ∙ ap length (one-packing _ (size a) (kinds .0) (wrote-kinds .runs) (kinds .1 .0) (wrote-kinds .packing)) in
+    kinds .1 .1 ∙ ap length (one-packing _ (size a) (kinds .0) (wrote-kinds .runs) (kinds .1 .0) (wrote-kinds .packing)) in
     let id-room : c .write .result ≤ room (s .ids) = omega (arith, id-count, wrote-ids .length-is) in
     let kind-room : c .write-2 .result ≤ room (s .kinds) = omega (arith, kind-count, wrote-kinds .length-is) in
     record {

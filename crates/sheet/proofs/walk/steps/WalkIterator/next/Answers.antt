@@ -23,9 +23,10 @@ returns g c =
     let p = place (w .positions) in
     let same = level-mark runs (w .ids .place) p (w .behind inside) (w .level inside) in
     let style : mapped now (c .match-next .style) ≡ styled palette (mark-at runs p) =
-        elim (c .match-next .came) [
-            in-Some v ↦ ap (mapped now) (v .style-is) ∙ v .style-of-style .ensures ∙ ap (styled palette) (sym (v .in-Some .is) ∙ c .next-2 .ensures .value ∙ same)
-          | in-None v ↦ ap (mapped now) (v .style-is) ∙ ap (styled palette) (sym (v .in-None .is) ∙ c .next-2 .ensures .value ∙ same) ] in
+    elim (c .match-next .came) [
+      | in-Some v ↦ ap (mapped now) (v .style-is) ∙ v .style-of-style .ensures ∙ ap (styled palette) (sym (v .in-Some .is) ∙ c .next-2 .ensures .value ∙ same)
+      | in-None v ↦ ap (mapped now) (v .style-is) ∙ ap (styled palette) (sym (v .in-None .is) ∙ c .next-2 .ensures .value ∙ same)
+    ] in
     record {
       steps = record {
         item = seen-there palette a runs p (c .row .result) (c .column .result) (mapped now (c .match-next .style)) inside (c .row .ensures ∙ at .item .1) (c .column .ensures ∙ at .item .2) style;
