@@ -1,16 +1,30 @@
 -- What making a sheet, put and clear do.
 use mathlib.Core.Path.{_≡_}
 use mathlib.Core.Bool.{Bool, true, false}
+use mathlib.Core.List.{[]}
 use Prim.Native.Nat.{ℕ}
+use lib.ListN.{replicate}
+use Rattle.std.specs.Of.Vec.{vec-items}
 use Rattle.std.specs.declared.option.Option.the-variants.{None}
 use Rattle.std.specs.declared.result.Result.{Result}
+use Rattle.formats.specs.declared.CellFormat.the-variants.{Other}
 use Rattle.sheet.specs.declared.memory.Sheet.{Sheet}
 use Rattle.sheet.specs.declared.memory.SheetMemory.{SheetMemory}
 use Rattle.sheet.specs.declared.answers.Put.{Put}
 use Rattle.sheet.specs.declared.answers.PutRefusal.{PutRefusal}
 use Rattle.sheet.specs.declared.answers.ClearRefusal.{ClearRefusal}
-use Rattle.sheet.specs.Contents.{words, kept, cell-room, memory-cell-room}
+use Rattle.sheet.specs.Contents.{words, kept, cell-room, memory-cell-room, memory-run-room}
 use Rattle.sheet.specs.Rules.{keeps, put-answer, put-words, put-kept, clears, clear-answer, clear-words, clear-kept}
+
+-- Memory for so many cells and runs, with nothing in it.
+pub record Blank (cells runs : ℕ) (m : SheetMemory) : Type 0 where
+  pub no-cells : vec-items (m .cells .cells) ≡ []
+  pub cell-room-is : memory-cell-room m ≡ cells
+  pub ids-are : vec-items (m .ids) ≡ replicate runs 0
+  pub id-ends-are : vec-items (m .«id_ends») ≡ replicate runs 0
+  pub kinds-are : vec-items (m .kinds) ≡ replicate runs Other
+  pub kind-ends-are : vec-items (m .«kind_ends») ≡ replicate runs 0
+  pub run-room-is : memory-run-room m ≡ runs
 
 -- A new sheet keeps no cell and has no box and no runs; the entries of its run memory are those that were handed over.
 pub record Made (m : SheetMemory) (s : Sheet) : Type 0 where

@@ -2,8 +2,7 @@
 ghost use mathlib.Core.Path.{_≡_};
 ghost use lib.ListN.{length};
 ghost use Rattle.std.specs.Vec.{made};
-ghost use Rattle.sheet.specs.Contents.{memory-cell-room, memory-run-room};
-ghost use Rattle.sheet.specs.Edits.{Made, PutDone, ClearDone};
+ghost use Rattle.sheet.specs.Edits.{Blank, Made, PutDone, ClearDone};
 use crate::answers::ClearRefusal;
 use crate::answers::Put;
 use crate::answers::PutRefusal;
@@ -20,9 +19,10 @@ use std::alloc::AllocError;
 use std::alloc::Global;
 
 impl SheetMemory {
-    /// Memory for a number of cells and of runs of each kind.
+    /// Memory for a number of cells and of runs of each kind: no cells, and runs of id 0 and of `Other`
+    /// that end at 0.
     pub fn with_room(heap: Global, cells: usize, runs: usize) -> Result<SheetMemory, AllocError>
-        ensures { λ r. ⌜ made r (λ m. (memory-cell-room m ≡ cells) × (memory-run-room m ≡ runs)) ⌝ }
+        ensures { λ r. ⌜ made r (λ m. Blank cells runs m) ⌝ }
     {
         Ok(SheetMemory {
             cells: CellMemory::new(heap, cells)?,
