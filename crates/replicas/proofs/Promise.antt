@@ -52,9 +52,9 @@ counts-memory (x ∷ xs) o = counts-cells (x ∷ xs) x o
 
 module _ {S : Type 0} (palette : List (Xf S)) where
   -- a word at the latest accepted pack is an id above 0 and below P
-  pub latest-listed : (C R : ℕ) (latest : Option (List Call)) (r c n : ℕ) → words-at palette C R latest r c ≡ Some n → (0 < n) × (n < length palette)
-  latest-listed C R None r c n e = absurd (let z : _≡_ {A = ℕ} 0 1 = cc in omega arith)
-  latest-listed C R (Some h) r c n e = word-listed (length palette) C h r c n e
+  pub latest-listed : (C : ℕ) (latest : Option (List Call)) (r c n : ℕ) → words-at palette C latest r c ≡ Some n → (0 < n) × (n < length palette)
+  latest-listed C None r c n e = absurd (let z : _≡_ {A = ℕ} 0 1 = cc in omega arith)
+  latest-listed C (Some h) r c n e = word-listed (length palette) C h r c n e
 
   -- the id at a position of the box is below P: where it is that of a gap, since some cell has one
   word-below : (words : Words) → ((r c n : ℕ) → words r c ≡ Some n → (0 < n) × (n < length palette)) → (r c : ℕ) → isSome (words r c) ≡ true → 0 < length palette
@@ -74,8 +74,8 @@ module _ {S : Type 0} (palette : List (Xf S)) where
 
   pub replica : (C R : ℕ) (calls h : List Call) (s : Sheet) → h ≡ reverse calls → Stands palette C R h s → Replica palette C R calls s
   replica C R calls h s e st =
-      let w = words-at palette C R (st .latest) in
-      let listed = latest-listed C R (st .latest) in
+      let w = words-at palette C (st .latest) in
+      let listed = latest-listed C (st .latest) in
       let long = s .cells .cells .ok .0 in
       let count : Counts (words s) (kept s) = subst (λ n. Counts (words s) n) (sym long) (counts-memory (vec-items (s .cells .cells)) (s .cells .ordered)) in
       let count-h : Counts (last-words (length palette) C h) (kept-after (length palette) C h) =
@@ -112,10 +112,10 @@ module _ {S : Type 0} (palette : List (Xf S)) where
       }
 
   module _ (C R : ℕ) (calls : List Call) (s : Sheet) (C′ R′ : ℕ) (calls′ : List Call) (t : Sheet) (one : Replica palette C R calls s) (other : Replica palette C′ R′ calls′ t) where
-    pub alike-from-words : SameWords palette C R C′ R′ (one .latest) (other .latest) → Alike palette s t
+    pub alike-from-words : SameWords palette C C′ (one .latest) (other .latest) → Alike palette s t
     alike-from-words same =
-        let v = words-at palette C R (one .latest) in
-        let w = words-at palette C′ R′ (other .latest) in
+        let v = words-at palette C (one .latest) in
+        let w = words-at palette C′ (other .latest) in
         let e : w ≡ v = fun-ext (λ r. fun-ext (λ c. sym (same r c))) in
         let box : area s ≡ area t = one-box v (area s) (area t) (one .bounds) (subst (λ u. Bounds u (area t)) e (other .bounds)) in
         same-answers s t
@@ -137,12 +137,12 @@ module _ {S : Type 0} (palette : List (Xf S)) where
     some-inj : (m n : ℕ) → Some m ≡ Some n → m ≡ n
     some-inj m n e = cc
 
-    pub words-from-runs : SameRuns s t → SameWords palette C R C′ R′ (one .latest) (other .latest)
+    pub words-from-runs : SameRuns s t → SameWords palette C C′ (one .latest) (other .latest)
     words-from-runs same r c =
-        let v = words-at palette C R (one .latest) in
-        let w = words-at palette C′ R′ (other .latest) in
-        let pv = λ (n : ℕ) (e : v r c ≡ Some n). latest-listed C R (one .latest) r c n e .0 in
-        let pw = λ (n : ℕ) (e : w r c ≡ Some n). latest-listed C′ R′ (other .latest) r c n e .0 in
+        let v = words-at palette C (one .latest) in
+        let w = words-at palette C′ (other .latest) in
+        let pv = λ (n : ℕ) (e : v r c ≡ Some n). latest-listed C (one .latest) r c n e .0 in
+        let pw = λ (n : ℕ) (e : w r c ≡ Some n). latest-listed C′ (other .latest) r c n e .0 in
         ⊎-elim
         (λ (i : In (area s) r c).
         let j : In (area t) r c = subst (λ b. In b r c) (same .box) i in

@@ -54,9 +54,9 @@ when-no false P Q e q = q
 module _ {S : Type 0} (palette : List (Xf S)) (C R : ℕ) where
   -- the box and the runs belong to the words at the latest accepted pack
   record Shows (latest : Option (List Call)) (s : Sheet) : Type 0 where
-    bounds : Bounds (words-at palette C R latest) (area s)
-    ids : Packs (λ id. id) (words-at palette C R latest) (area s) (id-runs s)
-    kinds : Packs (kind-at palette) (words-at palette C R latest) (area s) (kind-runs s)
+    bounds : Bounds (words-at palette C latest) (area s)
+    ids : Packs (λ id. id) (words-at palette C latest) (area s) (id-runs s)
+    kinds : Packs (kind-at palette) (words-at palette C latest) (area s) (kind-runs s)
 
   shows-same : (latest : Option (List Call)) (s s′ : Sheet) → SameRuns s s′ → Shows latest s → Shows latest s′
   shows-same latest s s′ same shows =
@@ -64,9 +64,9 @@ module _ {S : Type 0} (palette : List (Xf S)) (C R : ℕ) where
       let ids : id-runs s ≡ id-runs s′ = ap held (sym (same .ids-same)) in
       let kinds : kind-runs s ≡ kind-runs s′ = ap held (sym (same .kinds-same)) in
       record {
-        bounds = subst (λ b. Bounds (words-at palette C R latest) b) box (shows .bounds);
-        ids = subst (λ rs. Packs (λ id. id) (words-at palette C R latest) (area s′) rs) ids (subst (λ b. Packs (λ id. id) (words-at palette C R latest) b (id-runs s)) box (shows .ids));
-        kinds = subst (λ rs. Packs (kind-at palette) (words-at palette C R latest) (area s′) rs) kinds (subst (λ b. Packs (kind-at palette) (words-at palette C R latest) b (kind-runs s)) box (shows .kinds));
+        bounds = subst (λ b. Bounds (words-at palette C latest) b) box (shows .bounds);
+        ids = subst (λ rs. Packs (λ id. id) (words-at palette C latest) (area s′) rs) ids (subst (λ b. Packs (λ id. id) (words-at palette C latest) b (id-runs s)) box (shows .ids));
+        kinds = subst (λ rs. Packs (kind-at palette) (words-at palette C latest) (area s′) rs) kinds (subst (λ b. Packs (kind-at palette) (words-at palette C latest) b (kind-runs s)) box (shows .kinds));
       }
 
   -- what stays of a sheet's standing where the runs stay

@@ -25,7 +25,7 @@ module _ {S : Type 0} (palette : List (Xf S)) (C R : ℕ) where
       (made : PackOf palette (last-words (length palette) C h))
       × When (isOk (pack-answer R (length (made .ids)) (length (made .kinds)))) (latest ≡ Some h) (Latest h latest)
 
-  -- the last words at that pack; before the first there are none
-  abbrev pub words-at : Option (List Call) → Words
-  words-at None r c = None
-  words-at (Some h) r c = last-words (length palette) C h r c
+-- the last words at that pack; before the first there are none
+abbrev pub words-at : {S : Type 0} → List (Xf S) → ℕ → Option (List Call) → Words
+words-at palette C None r c = None
+words-at palette C (Some h) r c = last-words (length palette) C h r c

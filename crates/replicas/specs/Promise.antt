@@ -1,4 +1,4 @@
--- What two replicas of a sheet promise, over one palette and after any calls at each.
+-- The promise about two desks, each with a replica of a sheet, over one palette and after any list of calls at each.
 use mathlib.Core.Path.{_≡_}
 use mathlib.Core.List.{List, reverse}
 use mathlib.Core.Bool.{Bool, cond}
@@ -57,11 +57,11 @@ module _ {S : Type 0} (palette : List (Xf S)) where
     -- as many cells count against C as positions have a word
     pub counted : Counts (last-words (length palette) C (reverse calls)) (kept-after (length palette) C (reverse calls))
     -- the box is the least around the cells kept at the latest accepted pack, and the tables hold packing's lists for it
-    pub bounds : Bounds (words-at palette C R latest) (area s)
-    pub ids : Packs (λ id. id) (words-at palette C R latest) (area s) (id-runs s)
-    pub kinds : Packs (kind-at palette) (words-at palette C R latest) (area s) (kind-runs s)
+    pub bounds : Bounds (words-at palette C latest) (area s)
+    pub ids : Packs (λ id. id) (words-at palette C latest) (area s) (id-runs s)
+    pub kinds : Packs (kind-at palette) (words-at palette C latest) (area s) (kind-runs s)
     -- get and kind answer inside the box by the last word, or 0 for none, and none outside; walk gives the box with get's styles
-    pub inside : (r c : ℕ) → In (area s) r c → Answers s r c (valueOr (words-at palette C R latest r c) 0)
+    pub inside : (r c : ℕ) → In (area s) r c → Answers s r c (valueOr (words-at palette C latest r c) 0)
     pub outside : (r c : ℕ) → (In (area s) r c → ⊥) → (got palette s r c ≡ None) × (kind-there s r c ≡ None)
     pub walks : (k : ℕ) → walked palette s k ≡ step (got palette s) (area s) k
 
@@ -73,19 +73,19 @@ module _ {S : Type 0} (palette : List (Xf S)) where
     pub walks : (k : ℕ) → walked palette s k ≡ walked palette t k
 
   -- every last word at the latest accepted pack of one is that of the other
-  abbrev pub SameWords : (C R C′ R′ : ℕ) → Option (List Call) → Option (List Call) → Type 0
-  SameWords C R C′ R′ latest latest′ = (r c : ℕ) → words-at palette C R latest r c ≡ words-at palette C′ R′ latest′ r c
+  abbrev pub SameWords : (C C′ : ℕ) → Option (List Call) → Option (List Call) → Type 0
+  SameWords C C′ latest latest′ = (r c : ℕ) → words-at palette C latest r c ≡ words-at palette C′ latest′ r c
 
 -- The promise about two replicas, whole. M is any kind of mark with a lawful comparison.
 pub record Promise {S : Type 0} (M : Type 0) (palette : List (Xf S)) (C R : ℕ) (calls : List Call) (s : Sheet) (C′ R′ : ℕ) (calls′ : List Call) (t : Sheet) (agree : Bool) : Type 0 where
-  -- (b), and of (c) that the tables hold packing's lists
+  -- what each desk holds and answers, and that its tables hold packing's lists
   pub loader : Replica palette C R calls s
   pub floor : Replica palette C′ R′ calls′ t
-  -- (a) with its converse: the replicas are alike exactly if their last words are the same
-  pub alike : SameWords palette C R C′ R′ (loader .latest) (floor .latest) → Alike palette s t
-  pub unlike : SameRuns s t → SameWords palette C R C′ R′ (loader .latest) (floor .latest)
+  -- the desks are alike if their last words are the same, and only then; and the call says whether they are
+  pub alike : SameWords palette C C′ (loader .latest) (floor .latest) → Alike palette s t
+  pub unlike : SameRuns s t → SameWords palette C C′ (loader .latest) (floor .latest)
   pub answer : Decides agree (SameRuns s t)
-  -- (c) over every kind of mark, and whatever marks the positions have: there is packing's list, and every other that spells
-  -- them is longer; pack is refused exactly if one of its lists has more than R runs
+  -- for every kind of mark, and whatever marks the positions have, there is packing's list, and every other list that spells
+  -- them is longer; a pack is refused exactly if one of its lists has more runs than there is room for
   pub shortest : (spot : ℕ → M) (n : ℕ) → (runs : List (Run M)) × (Packing spot n runs × Shortest spot n runs)
   pub refused : (room ids kinds : ℕ) → Decides (isErr (pack-answer room ids kinds)) ((room < ids) ⊎ (room < kinds))

@@ -40,6 +40,6 @@ module _ {S : Type 0} (palette : List (Xf S)) where
     pub kept-is : kept s ≡ kept-after (length palette) C h
     pub latest : Option (List Call)
     pub is-latest : Latest palette C R h latest
-    pub bounds : Bounds (words-at palette C R latest) (area s)
-    pub ids : Packs (λ id. id) (words-at palette C R latest) (area s) (id-runs s)
-    pub kinds : Packs (kind-at palette) (words-at palette C R latest) (area s) (kind-runs s)
+    pub bounds : Bounds (words-at palette C latest) (area s)
+    pub ids : Packs (λ id. id) (words-at palette C latest) (area s) (id-runs s)
+    pub kinds : Packs (kind-at palette) (words-at palette C latest) (area s) (kind-runs s)
