@@ -1,5 +1,8 @@
--- Whether two date kinds are the same.
+-- Whether two date kinds are the same, and their names.
 use mathlib.Core.Bool.{Bool, true, false}
+use mathlib.Core.List.{List}
+use Prim.Native.Nat.{ℕ}
+use lib.Chars.{codes}
 use Rattle.formats.specs.declared.CellFormat.{CellFormat}
 use Rattle.formats.specs.declared.CellFormat.the-variants.{Other, DateTime, TimeDelta}
 
@@ -13,3 +16,8 @@ same-kind DateTime TimeDelta = false
 same-kind TimeDelta Other = false
 same-kind TimeDelta DateTime = false
 same-kind TimeDelta TimeDelta = true
+
+abbrev pub kind-name : CellFormat → List ℕ
+kind-name Other = codes "Other"
+kind-name DateTime = codes "DateTime"
+kind-name TimeDelta = codes "TimeDelta"

@@ -1,5 +1,6 @@
 //! Date kinds: what a cell's number format makes of its number.
-ghost use Rattle.formats.specs.Kinds.{same-kind};
+ghost use Rattle.formats.specs.Kinds.{same-kind, kind-name};
+ghost use Rattle.std.specs.declared.option.Option.the-variants.{Some};
 use runs::Mark;
 use std::fmt;
 
@@ -21,6 +22,8 @@ pub impl Mark for CellFormat as KindMark {
 }
 
 pub impl fmt::Display for CellFormat as CellFormatDisplay {
+    ghost shown = { λ x. Some (kind-name x) };
+
     fn fmt<W: fmt::Write>(&self, f: &mut fmt::Formatter<W>) -> fmt::Result {
         match *self {
             CellFormat::Other => f.write_str("Other"),

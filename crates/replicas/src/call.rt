@@ -1,4 +1,6 @@
 //! The calls that change a sheet, and their answers.
+ghost use Rattle.std.specs.declared.option.Option.the-variants.{Some};
+ghost use Rattle.replicas.specs.Answers.{answer-text};
 use sheet::ClearRefusal;
 use sheet::ClearRefusalDisplay;
 use sheet::PackRefusal;
@@ -26,6 +28,8 @@ pub enum Answer {
 }
 
 pub impl fmt::Display for Answer as AnswerDisplay {
+    ghost shown = { λ x. Some (answer-text x) };
+
     fn fmt<W: fmt::Write>(&self, f: &mut fmt::Formatter<W>) -> fmt::Result {
         match *self {
             Answer::Put(Ok(Put::Kept)) => f.write_str("kept"),

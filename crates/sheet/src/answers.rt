@@ -1,6 +1,7 @@
 //! What the calls of a sheet answer, and how they refuse.
 ghost use mathlib.Core.Path.{_≡_};
-ghost use Rattle.sheet.specs.Refusals.{put-number, clear-number, pack-number};
+ghost use Rattle.sheet.specs.Refusals.{put-number, clear-number, pack-number, put-text, clear-text, pack-text};
+ghost use Rattle.std.specs.declared.option.Option.the-variants.{Some};
 use std::fmt;
 
 /// How a put that is not refused went.
@@ -80,6 +81,8 @@ impl PackRefusal {
 }
 
 pub impl fmt::Display for PutRefusal as PutRefusalDisplay {
+    ghost shown = { λ x. Some (put-text x) };
+
     fn fmt<W: fmt::Write>(&self, f: &mut fmt::Formatter<W>) -> fmt::Result {
         match *self {
             PutRefusal::OffSheet => f.write_str("refused 10 (the position is off the sheet)"),
@@ -89,6 +92,8 @@ pub impl fmt::Display for PutRefusal as PutRefusalDisplay {
 }
 
 pub impl fmt::Display for ClearRefusal as ClearRefusalDisplay {
+    ghost shown = { λ x. Some (clear-text x) };
+
     fn fmt<W: fmt::Write>(&self, f: &mut fmt::Formatter<W>) -> fmt::Result {
         match *self {
             ClearRefusal::OffSheet => f.write_str("refused 10 (the position is off the sheet)"),
@@ -97,6 +102,8 @@ pub impl fmt::Display for ClearRefusal as ClearRefusalDisplay {
 }
 
 pub impl fmt::Display for PackRefusal as PackRefusalDisplay {
+    ghost shown = { λ x. Some (pack-text x) };
+
     fn fmt<W: fmt::Write>(&self, f: &mut fmt::Formatter<W>) -> fmt::Result {
         match *self {
             PackRefusal::IdRuns { needed } => {
