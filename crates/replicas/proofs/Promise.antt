@@ -50,6 +50,11 @@ counts-memory : (cells : List Cell) → Ordered cells → Counts (words-of cells
 counts-memory [] o = counts-none
 counts-memory (x ∷ xs) o = counts-cells (x ∷ xs) x o
 
+-- packing's lists for the same words and the same box are the same
+pub one-list : {M : Type 0} (mark : ℕ → M) (words : Words) (box : Option Area) (a b : List (Run M)) → Packs mark words box a → Packs mark words box b → a ≡ b
+one-list mark words None a b pa pb = pa ∙ sym pb
+one-list mark words (Some x) a b pa pb = one-packing _ _ a b pa pb
+
 module _ {S : Type 0} (palette : List (Xf S)) where
   -- a word at the latest accepted pack is an id above 0 and below P
   pub latest-listed : (C : ℕ) (latest : Option (List Call)) (r c n : ℕ) → words-at palette C latest r c ≡ Some n → (0 < n) × (n < length palette)
@@ -96,11 +101,6 @@ module _ {S : Type 0} (palette : List (Xf S)) where
         outside = λ r c o. (ap (styled palette) (mark-outside (area s) (id-runs s) r c o), mark-outside (area s) (kind-runs s) r c o);
         walks = λ k. walk-steps palette w (area s) (id-runs s) (st .bounds) k;
       }
-
-  -- packing's lists for the same words and the same box are the same
-  one-list : {M : Type 0} (mark : ℕ → M) (words : Words) (box : Option Area) (a b : List (Run M)) → Packs mark words box a → Packs mark words box b → a ≡ b
-  one-list mark words None a b pa pb = pa ∙ sym pb
-  one-list mark words (Some x) a b pa pb = one-packing _ _ a b pa pb
 
   pub same-answers : (s t : Sheet) → SameRuns s t → Alike palette s t
   same-answers s t same =
