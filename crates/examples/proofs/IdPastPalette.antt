@@ -36,12 +36,12 @@ held : (r c : ℕ) → isSome (reworded two 6 2 (Some 1) r c) ≡ true → Insid
 held r c e = ⊎-elim
     (λ (at : (6 ≡ r) × (2 ≡ c)). (omega arith, omega arith, omega arith, omega arith))
     (λ (e2 : isSome (two r c) ≡ true). ⊎-elim
-        (λ (at : (5 ≡ r) × (3 ≡ c)). (omega arith, omega arith, omega arith, omega arith))
-        (λ (e3 : isSome (one r c) ≡ true). ⊎-elim
-            (λ (at : (5 ≡ r) × (2 ≡ c)). (omega arith, omega arith, omega arith, omega arith))
-            (λ (none : isSome (no-words r c) ≡ true). absurd (true≢false (sym none)))
-            (newest no-words 5 2 2 r c e3))
-        (newest one 5 3 2 r c e2))
+    (λ (at : (5 ≡ r) × (3 ≡ c)). (omega arith, omega arith, omega arith, omega arith))
+    (λ (e3 : isSome (one r c) ≡ true). ⊎-elim
+    (λ (at : (5 ≡ r) × (2 ≡ c)). (omega arith, omega arith, omega arith, omega arith))
+    (λ (none : isSome (no-words r c) ≡ true). absurd (true≢false (sym none)))
+    (newest no-words 5 2 2 r c e3))
+    (newest one 5 3 2 r c e2))
     (newest two 6 2 1 r c e)
 
 least : Least words box
@@ -60,8 +60,10 @@ packing =
     first zero h l = refl
     first (suc zero) h l = refl
     first (suc (suc p)) h l = absurd (omega arith)
+
     second : (p : ℕ) → 2 ≤ p → p < 3 → spot (λ id. id) words box p ≡ 1
     second p h l = let e : 2 ≡ p = omega arith in ap (spot (λ id. id) words box) (sym e)
+
     third : (p : ℕ) → 3 ≤ p → p < 4 → spot (λ id. id) words box p ≡ 0
     third p h l = let e : 3 ≡ p = omega arith in ap (spot (λ id. id) words box) (sym e)
 

@@ -4,5 +4,4 @@ ghost use Rattle.examples.specs.Table.{Table};
 /// Every example of the table holds.
 pub fn hold()
     ensures { λ _. ⌜ Table ⌝ }
-{
-}
+{}
