@@ -6,8 +6,6 @@ use lib.Chars.{codes}
 use Rattle.std.specs.Numbers.{Converted}
 use Rattle.std.specs.Reads.{Numeral, value}
 use Rattle.std.specs.declared.result.Result.{Result}
-use Rattle.formats.specs.declared.CellFormat.{CellFormat}
-use Rattle.formats.specs.declared.CellFormat.the-variants.{Other, DateTime, TimeDelta}
 use Rattle.intake.specs.declared.command.DeskName.{DeskName}
 use Rattle.intake.specs.declared.command.DeskName.the-variants.{Loader, Floor}
 
@@ -15,12 +13,6 @@ use Rattle.intake.specs.declared.command.DeskName.the-variants.{Loader, Floor}
 -- refused.
 abbrev pub ReadsNumber : {E : Type 0} → List ℕ → Result ℕ E → Type 0
 ReadsNumber word r = Converted r (Numeral 10 word × (value 10 word < 2 ^ 32)) (value 10 word)
-
--- the word for a date kind
-abbrev pub kind-word : CellFormat → List ℕ
-kind-word Other = codes "Other"
-kind-word DateTime = codes "DateTime"
-kind-word TimeDelta = codes "TimeDelta"
 
 -- the word for a desk
 abbrev pub desk-word : DeskName → List ℕ

@@ -2,9 +2,10 @@
 ghost use mathlib.Core.Path.{_≡_};
 ghost use Rattle.std.specs.Options as options;
 ghost use Rattle.std.specs.Results as results;
+ghost use Rattle.formats.specs.Kinds.{kind-name};
 ghost use Rattle.formats.specs.declared.CellFormat.{CellFormat};
 ghost use Rattle.intake.specs.declared.command.DeskName.{DeskName};
-ghost use Rattle.intake.specs.Words.{ReadsNumber, kind-word, desk-word};
+ghost use Rattle.intake.specs.Words.{ReadsNumber, desk-word};
 use crate::command::Command;
 use crate::command::DeskName;
 use crate::command::Question;
@@ -36,7 +37,7 @@ fn number_of(word: &str) -> Result<u32, Misread>
 
 /// The date kind that a word names.
 fn kind_of(word: &str) -> Result<CellFormat, Misread>
-    ensures { λ r. ⌜ results.Cases r (λ kind. now (word .entry) ≡ kind-word kind) (λ _. (kind : CellFormat) → now (word .entry) ≡ kind-word kind → ⊥) ⌝ }
+    ensures { λ r. ⌜ results.Cases r (λ kind. now (word .entry) ≡ kind-name kind) (λ _. (kind : CellFormat) → now (word .entry) ≡ kind-name kind → ⊥) ⌝ }
 {
     match word {
         "Other" => Ok(CellFormat::Other),
