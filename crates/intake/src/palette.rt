@@ -14,6 +14,7 @@ use sheet::Xf;
 use std::alloc::Global;
 
 /// The entries so far. The style of each has the number of its place.
+#[derive(Drop)]
 pub struct Palette {
     entries: Vec<Xf<Style>>,
     ghost numbered: { (k : ℕ) (d : entry.Xf style.Style) → k < vec-len entries → getD (vec-items entries) k d .style .number ≡ k },
@@ -46,20 +47,7 @@ impl Palette {
         let style = Style { number };
         match self.entries.push(Xf { style, kind }) {
             Ok(()) => Ok(number),
-            Err(refused) => {
-                let Xf { style: _, kind: _ } = refused.value;
-                Err(Misread::NoMemoryForXf)
-            }
+            Err(_) => Err(Misread::NoMemoryForXf),
         }
-    }
-}
-
-impl Drop for Palette {
-    fn drop(self) {
-        let Palette { mut entries } = self;
-        while let Some(entry) = entries.pop() {
-            let Xf { style: _, kind: _ } = entry;
-        }
-        entries.destroy_empty();
     }
 }

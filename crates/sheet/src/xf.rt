@@ -5,6 +5,7 @@ ghost use Rattle.sheet.specs.Palette.{style-at, kind-at};
 use formats::CellFormat;
 
 /// A style and its date kind. The palette is a list of these, and a style id is an index of it.
+#[derive(Drop)]
 pub struct Xf<S> {
     pub style: S,
     pub kind: CellFormat,
