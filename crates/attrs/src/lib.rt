@@ -1,4 +1,6 @@
 //! Attribute text: the items of an element, their checks, and look-up of a key.
+#![tactic(auto)]
+
 mod attributes;
 mod bytes;
 mod fault;

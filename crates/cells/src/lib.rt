@@ -1,5 +1,7 @@
 //! Cells of a sheet: positions, the bounding box, and an ordered memory that keeps one style id at a
 //! position.
+#![tactic(auto)]
+
 mod bounding_box;
 mod cell;
 mod memory;

@@ -1,4 +1,6 @@
 //! Date kinds: what a cell's number format makes of its number.
+#![tactic(auto)]
+
 ghost use Rattle.formats.specs.Kinds.{same_kind, kind_name};
 ghost use Rattle.std.specs.Prelude.{Some};
 ghost use Rattle.std.proofs.Common.{rules};

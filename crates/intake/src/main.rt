@@ -1,4 +1,6 @@
 //! Reads a session line by line from standard input, and answers each line on standard output.
+#![tactic(auto)]
+
 mod command;
 mod desk;
 mod misread;

@@ -1,4 +1,6 @@
 //! Whole numbers and decimals as attributes write them.
+#![tactic(auto)]
+
 mod decimals;
 mod digits;
 mod rounding;

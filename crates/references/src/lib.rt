@@ -1,4 +1,6 @@
 //! References: decoding the raw text of an XML attribute value into characters.
+#![tactic(auto)]
+
 mod characters;
 mod decoder;
 mod reference;

@@ -1,4 +1,6 @@
 //! Replicas of a sheet that are edited apart, and the promise about two of them.
+#![tactic(auto)]
+
 mod call;
 mod play;
 

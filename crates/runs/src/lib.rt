@@ -1,5 +1,7 @@
 //! Runs of equal marks: packing a box of marked cells into the shortest list of runs, and reading
 //! such a list back by look-up and by a walk.
+#![tactic(auto)]
+
 mod mark;
 mod marked;
 mod memory;

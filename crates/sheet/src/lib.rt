@@ -1,4 +1,6 @@
 //! A sheet of styled cells: put, clear, pack, get, kind and walk.
+#![tactic(auto)]
+
 mod answers;
 mod marked;
 mod memory;

@@ -9,6 +9,8 @@
 //!     decimal TEXT.. ANSWER       the bits of a binary64, or none
 //!     whole BITS TEXT.. ANSWER    a whole number of 8, 16, 32 or 64 bits, or none
 //!     decode TEXT.. ANSWER        the decoded text, = where that is the text itself, or refused
+#![tactic(auto)]
+
 mod attribute_texts;
 mod decimals;
 mod field;

@@ -8,16 +8,16 @@ loop-at-preserved c = (
   omega arith,
   omega arith,
   run_more (of_kind c.args.kind) c.args.bytes.now c.args.from c.loop-at.at (omega arith) (omega arith) c.loop-at.invariant.2
-      (sym c.is-of.ensures ∙ c.if-is-of.true),
+      (sym c.is_of.ensures ∙ c.if-is_of.true),
 )
 
-pub returns-else-is-of : goal.returns-else-is-of
-returns-else-is-of c =
+pub returns-else-is_of : goal.returns-else-is_of
+returns-else-is_of c =
     record {
       low = omega arith;
       high = omega arith;
       run = c.loop-at.invariant.2;
-      stop = stops_here (of_kind c.args.kind) c.args.bytes.now c.loop-at.at (omega arith) (sym c.is-of.ensures ∙ c.if-is-of.false);
+      stop = stops_here (of_kind c.args.kind) c.args.bytes.now c.loop-at.at (omega arith) (sym c.is_of.ensures ∙ c.if-is_of.false);
     }
 
 pub returns-after-loop-at : goal.returns-after-loop-at

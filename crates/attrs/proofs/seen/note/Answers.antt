@@ -12,8 +12,8 @@ returns c =
     let index = word_of number (length words) in
     let word = get_or words index 0 in
     let inside : index < length words = mod-lt _ c.requires in
-    let is = c.bits-of.ensures in
-    let told = Decides-eqb (bit_or word c.bits-of.result) word in
+    let is = c.bits_of.ensures in
+    let told = Decides-eqb (bit_or word c.bits_of.result) word in
     record {
       answer = (λ e. ap (bit_or word) (sym is) ∙ told.0 e, λ m. told.1 (ap (bit_or word) is ∙ m));
       marked = subst (λ b. Marked (set words index (bit_or word b)) number) (sym is) (now_marked words number inside);

@@ -10,10 +10,10 @@ use Rattle.numbers.proofs.decimals.decimal.Goals as goal
 pub nearest-size-requires : goal.nearest-size-requires
 nearest-size-requires c =
     let text = c.args.text.now in
-    said_bounds (begins is_minus text) c.in-ok-negative.field-0 (without is_minus text) c.in-ok-negative.ensures
+    said_bounds (begins is_minus text) c.in_ok-negative.field-0 (without is_minus text) c.in_ok-negative.ensures
 
 pub returns-then-negative : goal.returns-then-negative
 returns-then-negative c =
-    let d = c.in-ok-negative.field-0 in
+    let d = c.in_ok-negative.field-0 in
     ap (λ (x : Float). Some x) (ap neg c.nearest-size.ensures ∙ neg-round binary64 d.w (10 ^ d.k) ∙ ap (λ (b : Bool). round binary64 b d.w (10 ^ d.k)) (sym c.if-negative.true))
-    ∙ ap (option_map rounded) c.in-ok-negative.ensures
+    ∙ ap (option_map rounded) c.in_ok-negative.ensures

@@ -7,4 +7,4 @@ use Rattle.numbers.proofs.decimals.past_point.Goals as goal
 pub returns : goal.returns
 returns c =
     let text = c.args.text.now in
-    c.digits.ensures ∙ ap (front c.args.number) (take_rest text 1) ∙ sym (cond-true _ _ _ (sym c.if-not-begins-with.ensures))
+    c.digits.ensures ∙ ap (front c.args.number) (take_rest text 1) ∙ sym (cond-true _ _ _ (sym c.if-not-begins_with.ensures))

@@ -4,60 +4,60 @@ use Rattle.numbers.specs.Decimals.{scaled}
 use Rattle.numbers.specs.Fronts.{power_below}
 use Rattle.numbers.proofs.Scans.{large_whole, large_fraction, after_shorter, rest_shorter, large_number, no_figures, all_read}
 use Rattle.numbers.proofs.decimals.scan.Goals as goal
-use Rattle.numbers.proofs.decimals.scan.Goals.{then-w-ge-TOO-LARGE-via-then-w-ge-TOO-LARGE, then-w-ge-TOO-LARGE-via-else-w-ge-TOO-LARGE+then-text-after-eq0}
+use Rattle.numbers.proofs.decimals.scan.Goals.{then-w-ge-TOO_LARGE-via-then-w-ge-TOO_LARGE, then-w-ge-TOO_LARGE-via-else-w-ge-TOO_LARGE+then-text-after-eq0}
 
-pub returns-in-err-whole : goal.returns-in-err-whole
-returns-in-err-whole c = rw c.from-residual.ensures (large_whole c.args.negative c.args.text.now c.in-err-whole.ensures)
+pub returns-in_err-whole : goal.returns-in_err-whole
+returns-in_err-whole c = rw c.from_residual.ensures (large_whole c.args.negative c.args.text.now c.in_err-whole.ensures)
 
-pub returns-in-err-w : goal.returns-in-err-w
-returns-in-err-w c =
-    let front = c.in-ok-whole in
-    rw c.from-residual-in-err-w.ensures
-    (large_fraction c.args.negative c.args.text.now front.whole front.after.now front.ensures c.in-err-w.ensures)
+pub returns-in_err-w : goal.returns-in_err-w
+returns-in_err-w c =
+    let front = c.in_ok-whole in
+    rw c.from_residual-in_err-w.ensures
+    (large_fraction c.args.negative c.args.text.now front.whole front.after.now front.ensures c.in_err-w.ensures)
 
-pub overflow-sub-after : goal.overflow-sub-after
-overflow-sub-after c =
-    let front = c.in-ok-whole in
-    let past = c.in-ok-w in
+pub overflow_sub-after : goal.overflow_sub-after
+overflow_sub-after c =
+    let front = c.in_ok-whole in
+    let past = c.in_ok-w in
     rest_shorter c.args.negative c.args.text.now front.whole front.after.now front.ensures past.w past.rest.now past.ensures
 
-pub overflow-sub-text : goal.overflow-sub-text
-overflow-sub-text c =
-    let front = c.in-ok-whole in
+pub overflow_sub-text : goal.overflow_sub-text
+overflow_sub-text c =
+    let front = c.in_ok-whole in
     after_shorter c.args.negative c.args.text.now front.whole front.after.now front.ensures
 
-pub returns-then-w-ge-TOO-LARGE : goal.returns-then-w-ge-TOO-LARGE
-returns-then-w-ge-TOO-LARGE c =
+pub returns-then-w-ge-TOO_LARGE : goal.returns-then-w-ge-TOO_LARGE
+returns-then-w-ge-TOO_LARGE c =
     let minus = c.args.negative in
     let text = c.args.text.now in
-    let front = c.in-ok-whole in
-    let past = c.in-ok-w in
-    elim c.then-w-ge-TOO-LARGE.branch [
-      | then-w-ge-TOO-LARGE-via-then-w-ge-TOO-LARGE w ↦ large_number minus text front.whole front.after.now front.ensures past.w past.rest.now past.ensures w.if-w-ge-TOO-LARGE.true
-      | then-w-ge-TOO-LARGE-via-else-w-ge-TOO-LARGE+then-text-after-eq0 w ↦
+    let front = c.in_ok-whole in
+    let past = c.in_ok-w in
+    elim c.then-w-ge-TOO_LARGE.branch [
+      | then-w-ge-TOO_LARGE-via-then-w-ge-TOO_LARGE w ↦ large_number minus text front.whole front.after.now front.ensures past.w past.rest.now past.ensures w.if-w-ge-TOO_LARGE.true
+      | then-w-ge-TOO_LARGE-via-else-w-ge-TOO_LARGE+then-text-after-eq0 w ↦
           no_figures minus text front.whole front.after.now front.ensures past.w past.rest.now past.ensures
-          (ap (λ (k : ℕ). length text - length front.after.now + k) (sym c.saturating-sub-fraction.ensures) ∙ w.if-text-after-eq0.true)
+          (ap (λ (k : ℕ). length text - length front.after.now + k) (sym c.saturating_sub-fraction.ensures) ∙ w.if-text-after-eq0.true)
     ]
 
-pub returns-in-err-k : goal.returns-in-err-k
-returns-in-err-k c =
+pub returns-in_err-k : goal.returns-in_err-k
+returns-in_err-k c =
     let minus = c.args.negative in
     let text = c.args.text.now in
-    let front = c.in-ok-whole in
-    let past = c.in-ok-w in
-    let fraction = c.saturating-sub-fraction in
-    rw c.from-residual-in-err-k.ensures
-    (ap (option_map (scaled minus past.w)) (c.in-err-k.ensures ∙ ap (λ (k : ℕ). power_below k past.rest.now) fraction.ensures)
-    ∙ all_read minus text front.whole front.after.now front.ensures past.w past.rest.now past.ensures c.if-w-ge-TOO-LARGE.false
+    let front = c.in_ok-whole in
+    let past = c.in_ok-w in
+    let fraction = c.saturating_sub-fraction in
+    rw c.from_residual-in_err-k.ensures
+    (ap (option_map (scaled minus past.w)) (c.in_err-k.ensures ∙ ap (λ (k : ℕ). power_below k past.rest.now) fraction.ensures)
+    ∙ all_read minus text front.whole front.after.now front.ensures past.w past.rest.now past.ensures c.if-w-ge-TOO_LARGE.false
     (λ e. c.if-text-after-eq0.false (ap (λ (k : ℕ). length text - length front.after.now + k) fraction.ensures ∙ e)))
 
 pub returns : goal.returns
 returns c =
     let minus = c.args.negative in
     let text = c.args.text.now in
-    let front = c.in-ok-whole in
-    let past = c.in-ok-w in
-    let fraction = c.saturating-sub-fraction in
-    ap (option_map (scaled minus past.w)) (c.in-ok-k.ensures ∙ ap (λ (k : ℕ). power_below k past.rest.now) fraction.ensures)
-    ∙ all_read minus text front.whole front.after.now front.ensures past.w past.rest.now past.ensures c.if-w-ge-TOO-LARGE.false
+    let front = c.in_ok-whole in
+    let past = c.in_ok-w in
+    let fraction = c.saturating_sub-fraction in
+    ap (option_map (scaled minus past.w)) (c.in_ok-k.ensures ∙ ap (λ (k : ℕ). power_below k past.rest.now) fraction.ensures)
+    ∙ all_read minus text front.whole front.after.now front.ensures past.w past.rest.now past.ensures c.if-w-ge-TOO_LARGE.false
     (λ e. c.if-text-after-eq0.false (ap (λ (k : ℕ). length text - length front.after.now + k) fraction.ensures ∙ e))

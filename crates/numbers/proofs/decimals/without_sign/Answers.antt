@@ -4,5 +4,5 @@ use Rattle.numbers.specs.Decimals.{is_sign}
 use Rattle.numbers.proofs.Exponents.{without_it}
 use Rattle.numbers.proofs.decimals.without_sign.Goals as goal
 
-pub returns-then-is-signed : goal.returns-then-is-signed
-returns-then-is-signed c = let text = c.args.text.now in take_rest text 1 ∙ without_it is_sign text (sym c.if-is-signed.ensures)
+pub returns-then-is_signed : goal.returns-then-is_signed
+returns-then-is_signed c = let text = c.args.text.now in take_rest text 1 ∙ without_it is_sign text (sym c.if-is_signed.ensures)

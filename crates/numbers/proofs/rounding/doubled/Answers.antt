@@ -2,8 +2,8 @@ use Rattle.std.proofs.Common.{arith}
 use Rattle.numbers.proofs.Long.{few_doublings, doubled_once, power_once}
 use Rattle.numbers.proofs.rounding.doubled.Goals as goal
 
-pub overflow-add-count : goal.overflow-add-count
-overflow-add-count c = omega (arith, few_doublings c.loop-unit.count c.loop-unit.unit c.args.dividend c.loop-unit.invariant.2 c.loop-unit.invariant.3 c.requires.2)
+pub overflow_add-count : goal.overflow_add-count
+overflow_add-count c = omega (arith, few_doublings c.loop-unit.count c.loop-unit.unit c.args.dividend c.loop-unit.invariant.2 c.loop-unit.invariant.3 c.requires.2)
 
 pub loop-unit-preserved : goal.loop-unit-preserved
 loop-unit-preserved c =

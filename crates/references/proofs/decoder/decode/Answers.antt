@@ -6,13 +6,13 @@ use Rattle.references.proofs.decoder.decode.Goals as goal
 pub write-requires : goal.write-requires
 write-requires c = (c.in-Ok.needed, c.in-Ok.ensures, c.if-buffer-needed.false)
 
-pub returns-in-default : goal.returns-in-default
-returns-in-default c =
-    record { decoded = (λ within. absurd (c.in-default.ensures within), refl); laws = laws }
+pub returns-in_default : goal.returns-in_default
+returns-in_default c =
+    record { decoded = (λ within. absurd (c.in_default.ensures within), refl); laws = laws }
 
-pub returns-in-default-decoded-size : goal.returns-in-default-decoded-size
-returns-in-default-decoded-size c =
-    record { decoded = (λ within. subst Undecodable c.in-Some.ensures.1 c.in-default-decoded-size.ensures, refl); laws = laws }
+pub returns-in_default-decoded_size : goal.returns-in_default-decoded_size
+returns-in_default-decoded_size c =
+    record { decoded = (λ within. subst Undecodable c.in-Some.ensures.1 c.in_default-decoded_size.ensures, refl); laws = laws }
 
 pub returns-then-buffer-needed : goal.returns-then-buffer-needed
 returns-then-buffer-needed c =

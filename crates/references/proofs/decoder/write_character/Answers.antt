@@ -5,6 +5,6 @@ use Rattle.references.proofs.decoder.write_character.Goals as goal
 
 pub returns : goal.returns
 returns c =
-    let bytes : c.as-bytes-bytes.result.now ≡ encode c.args.character = c.as-bytes-bytes.ensures.value ∙ c.encode-utf8.ensures.value in
-    put_middle c.args.buffer.now c.copy-from-slice.new.self (encode c.args.character) c.args.place (c.args.place + length c.as-bytes-bytes.result.now - c.args.place)
-    (c.copy-from-slice.ensures.after ∙ bytes) (omega (arith, ap length bytes))
+    let bytes : c.as_bytes-bytes.result.now ≡ encode c.args.character = c.as_bytes-bytes.ensures.value ∙ c.encode_utf8.ensures.value in
+    put_middle c.args.buffer.now c.copy_from_slice.new.self (encode c.args.character) c.args.place (c.args.place + length c.as_bytes-bytes.result.now - c.args.place)
+    (c.copy_from_slice.ensures.after ∙ bytes) (omega (arith, ap length bytes))

@@ -18,5 +18,5 @@ returns-in-apos c = subst (λ n. Entity n 39) (sym c.in-apos.is) apos
 pub returns-in-quot : goal.returns-in-quot
 returns-in-quot c = subst (λ n. Entity n 34) (sym c.in-quot.is) quot
 
-pub returns-in-default : goal.returns-in-default
-returns-in-default c d e = no_entity c.in-default.not-lt c.in-default.not-gt c.in-default.not-amp c.in-default.not-apos c.in-default.not-quot e
+pub returns-in_default : goal.returns-in_default
+returns-in_default c d e = no_entity c.in_default.not-lt c.in_default.not-gt c.in_default.not-amp c.in_default.not-apos c.in_default.not-quot e

@@ -5,9 +5,9 @@ use Rattle.references.proofs.reference.meaning.Goals as goal
 
 pub returns-in-Some : goal.returns-in-Some
 returns-in-Some c =
-    number_answers c.args.name.now c.in-Some.number.now c.by-number.result
+    number_answers c.args.name.now c.in-Some.number.now c.by_number.result
     (strip_prefix_char 35 c.args.name.now (Some c.in-Some.number) c.in-Some.ensures.cases (lit< tt))
-    c.by-number.ensures
+    c.by_number.ensures
 
 pub returns-in-None : goal.returns-in-None
 returns-in-None c =

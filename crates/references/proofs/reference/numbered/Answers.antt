@@ -3,19 +3,19 @@ use Rattle.std.proofs.lemmas.Int.Digits.{digits_more}
 use Rattle.references.proofs.Digits.{digit_at, capped_more, kept_answers}
 use Rattle.references.proofs.reference.numbered.Goals as goal
 
-pub with-digit-requires : goal.with-digit-requires
-with-digit-requires c = record { small = omega (arith, c.loop-byte.invariant.1); radix = c.requires }
+pub with_digit-requires : goal.with_digit-requires
+with_digit-requires c = record { small = omega (arith, c.loop-byte.invariant.1); radix = c.requires }
 
 pub loop-byte-preserved : goal.loop-byte-preserved
 loop-byte-preserved c = (
-  digits_more c.args.radix c.args.digits.now c.loop-byte.byte-index c.loop-byte-test.true c.loop-byte.invariant.0 c.in-ok-number.ensures.0,
-  c.in-ok-number.ensures.1 ∙ capped_more 0x110000 c.args.radix c.loop-byte.number c.args.digits.now c.loop-byte.byte-index c.requires c.loop-byte-test.true c.loop-byte.invariant.1,
+  digits_more c.args.radix c.args.digits.now c.loop-byte.byte-index c.loop-byte-test.true c.loop-byte.invariant.0 c.in_ok-number.ensures.0,
+  c.in_ok-number.ensures.1 ∙ capped_more 0x110000 c.args.radix c.loop-byte.number c.args.digits.now c.loop-byte.byte-index c.requires c.loop-byte-test.true c.loop-byte.invariant.1,
 )
 
-pub returns-in-err-number : goal.returns-in-err-number
-returns-in-err-number c =
-    rw c.from-residual.ensures
-    (λ n h. c.in-err-number.ensures (digit_at c.args.radix c.args.digits.now c.loop-byte.byte-index h.numeral.1 c.loop-byte-test.true))
+pub returns-in_err-number : goal.returns-in_err-number
+returns-in_err-number c =
+    rw c.from_residual.ensures
+    (λ n h. c.in_err-number.ensures (digit_at c.args.radix c.args.digits.now c.loop-byte.byte-index h.numeral.1 c.loop-byte-test.true))
 
 pub returns : goal.returns
 returns c =

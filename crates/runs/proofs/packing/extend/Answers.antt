@@ -23,6 +23,6 @@ returns g c =
       counted = ⊎_elim (λ joins. omega (arith, joins.0)) (λ differs. omega (arith, differs.0)) chosen;
       end = refl;
       written = λ spot marked marks0 ends0 written.
-          rw (c.put-at.ensures, c.put-at-2.ensures)
+          rw (c.put_at.ensures, c.put_at-2.ensures)
           (written_more forward marked written index chosen);
     }

@@ -12,21 +12,21 @@ loop-index-init g c =
     let cells = box.cells area in (
       omega arith,
       left_all gap cells (box.size area) c.positions-size.ensures.ordered,
-      written_none (mark_of gap cells) c.gap-mark-gap.result c.args.marks.now c.args.ends.now,
+      written_none (mark_of gap cells) c.gap_mark-gap.result c.args.marks.now c.args.ends.now,
     )
 
 -- an index below the count has a cell
 pub unreachable-requires : goal.unreachable-requires
 unreachable-requires g c =
-    nth_within (g.B.MarkedBox.cells c.args.area.now) c.loop-index.index (omega arith) c.in-default.ensures
+    nth_within (g.B.MarkedBox.cells c.args.area.now) c.loop-index.index (omega arith) c.in_default.ensures
 
 pub extend-tail-requires : goal.extend-tail-requires
 extend-tail-requires g c =
     let left = left_next c.loop-index.index c.loop-index.invariant.1 c.in-Some.cell c.in-Some.ensures in
     record { counted = c.loop-index.invariant.0; forward = left.order.0 }
 
-pub overflow-add-cell : goal.overflow-add-cell
-overflow-add-cell g c = omega (arith, (left_next c.loop-index.index c.loop-index.invariant.1 c.in-Some.cell c.in-Some.ensures).order.1)
+pub overflow_add-cell : goal.overflow_add-cell
+overflow_add-cell g c = omega (arith, (left_next c.loop-index.index c.loop-index.invariant.1 c.in-Some.cell c.in-Some.ensures).order.1)
 
 -- the positions before the cell have the gap mark, and its own position has its mark
 pub loop-index-preserved : goal.loop-index-preserved
@@ -40,8 +40,8 @@ loop-index-preserved g c =
     let left = left_next c.loop-index.index c.loop-index.invariant.1 cell c.in-Some.ensures in
     let before = c.extend-tail.ensures in
     let after = c.extend-tail-in-loop-index.ensures in
-    let before_cell : Marked spot c.loop-index.tail.end cell.place c.gap-mark-gap.result =
-    λ p from_p p_end. left_gap left p from_p p_end ∙ sym c.gap-mark-gap.ensures in
+    let before_cell : Marked spot c.loop-index.tail.end cell.place c.gap_mark-gap.result =
+    λ p from_p p_end. left_gap left p from_p p_end ∙ sym c.gap_mark-gap.ensures in
     let at_cell : Marked spot c.extend-tail.result.end (cell.place + 1) cell.mark =
     λ p from_p p_end. left_mark left p (omega (arith, before.end)) p_end in (
       after.counted,
@@ -61,6 +61,6 @@ returns g c =
     let spot = mark_of (box.gap area) (box.cells area) in
     let left = left_none c.loop-index.invariant.1 (omega arith) in
     let last = c.extend-tail-2.ensures in
-    let past_cells : Marked spot c.loop-index.tail.end c.positions-size.result c.gap-mark-gap.result =
-    λ p from_p p_end. left.marks p from_p ∙ sym c.gap-mark-gap.ensures in
+    let past_cells : Marked spot c.loop-index.tail.end c.positions-size.result c.gap_mark-gap.result =
+    λ p from_p p_end. left.marks p from_p ∙ sym c.gap_mark-gap.ensures in
     written_all (last.written spot past_cells _ _ c.loop-index.invariant.2) (last.end ∙ c.positions-size.ensures.value)

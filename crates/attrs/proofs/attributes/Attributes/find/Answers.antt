@@ -6,9 +6,9 @@ use Rattle.attrs.proofs.Nexts.{read_item, read_blank, read_fault}
 use Rattle.attrs.proofs.Finding.{Passed, passed_none, passed_more, found, not_found, found_among, none_among, first_inside}
 use Rattle.attrs.proofs.attributes.Attributes.find.Goals as goal
 
-pub returns-in-default-first : goal.returns-in-default-first
-returns-in-default-first c =
-    let blank = read_blank c.args.self.now c.loop-first.rest c.next.new.self c.loop-first.invariant.0 c.next.ensures.text c.in-Ok.first c.in-default-first.is c.in-Ok.ensures.next in
+pub returns-in_default-first : goal.returns-in_default-first
+returns-in_default-first c =
+    let blank = read_blank c.args.self.now c.loop-first.rest c.next.new.self c.loop-first.invariant.0 c.next.ensures.text c.in-Ok.first c.in_default-first.is c.in-Ok.ensures.next in
     let missing = not_found c.loop-first.invariant.1 (inl blank) in
     record { found = missing; among = λ items formed. none_among missing formed }
 
@@ -41,6 +41,6 @@ loop-first-preserved c =
 
 pub returns : goal.returns
 returns c =
-    let faulty = read_fault c.args.self.now c.loop-first.rest c.next.new.self c.loop-first.invariant.0 c.next.ensures.text c.in-default.field-0 c.in-default.ensures.next in
-    let missing = not_found c.loop-first.invariant.1 (inr (c.in-default.field-0, faulty)) in
+    let faulty = read_fault c.args.self.now c.loop-first.rest c.next.new.self c.loop-first.invariant.0 c.next.ensures.text c.in_default.field-0 c.in_default.ensures.next in
+    let missing = not_found c.loop-first.invariant.1 (inr (c.in_default.field-0, faulty)) in
     record { found = missing; among = λ items formed. none_among missing formed }

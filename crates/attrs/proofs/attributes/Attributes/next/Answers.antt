@@ -11,22 +11,22 @@ returns-then-self-text c =
 pub returns-then-place-text : goal.returns-then-place-text
 returns-then-place-text c =
     let self = c.args.self.now in
-    record { text = refl; one = one_first _ _; next = (blank self.text.now self.place c.run-end-place.result c.run-end-place.ensures c.if-place-text.true, refl, refl) }
+    record { text = refl; one = one_first _ _; next = (blank self.text.now self.place c.run_end-place.result c.run_end-place.ensures c.if-place-text.true, refl, refl) }
 
-pub returns-in-default : goal.returns-in-default
-returns-in-default c =
+pub returns-in_default : goal.returns-in_default
+returns-in_default c =
     let self = c.args.self.now in
-    let space = c.run-end-place.ensures in
+    let space = c.run_end-place.ensures in
     record {
       text = refl;
       one = one_first _ _;
-      next = (faulty self.text.now self.place _ space (omega (arith, space.high)) c.in-default.ensures.keyed, refl, refl);
+      next = (faulty self.text.now self.place _ space (omega (arith, space.high)) c.in_default.ensures.keyed, refl, refl);
     }
 
 pub returns-in-Err : goal.returns-in-Err
 returns-in-Err c =
     let self = c.args.self.now in
-    let space = c.run-end-place.ensures in
+    let space = c.run_end-place.ensures in
     record {
       text = refl;
       one = one_first _ _;
@@ -42,7 +42,7 @@ pub returns : goal.returns
 returns c =
     let self = c.args.self.now in
     let text = self.text.now in
-    let space = c.run-end-place.ensures in
+    let space = c.run_end-place.ensures in
     let key = c.in-Some.key in
     let value = c.in-Ok.value in
     let bounds = c.in-Ok.ensures.within in
@@ -50,7 +50,7 @@ returns c =
       text = refl;
       one = one_first _ _;
       next = (
-        first text self.place c.run-end-place.result key.end key.equals value.start value.end space (omega (arith, space.high)) c.in-Some.ensures.keyed
+        first text self.place c.run_end-place.result key.end key.equals value.start value.end space (omega (arith, space.high)) c.in-Some.ensures.keyed
             c.in-Ok.ensures.quoted c.in-Ok.ensures.apart bounds.1 bounds.2,
         past_is text value.start value.end bounds.1 (omega (arith, bounds.2)),
       );

@@ -7,11 +7,11 @@ use Rattle.cells.proofs.memory.CellMemory.bounding_box.Goals as goal
 
 pub returns-then-cells-eq0 : goal.returns-then-cells-eq0
 returns-then-cells-eq0 c r c' =
-    ap (λ (xs : List Cell). words_of xs r c') (sym c.as-slice-cells.ensures.value) ∙ no_words c.as-slice-cells.result.now c.if-cells-eq0.true r c'
+    ap (λ (xs : List Cell). words_of xs r c') (sym c.as_slice-cells.ensures.value) ∙ no_words c.as_slice-cells.result.now c.if-cells-eq0.true r c'
 
 pub loop-cell-init : goal.loop-cell-init
 loop-cell-init c =
-    let cells = c.as-slice-cells.result.now in
+    let cells = c.as_slice-cells.result.now in
     let some : 0 < length cells = let n = c.if-cells-eq0.false in omega arith in
     let x = c.index-cells-0.result in
     let e = c.index-cells-0.is in
@@ -19,7 +19,7 @@ loop-cell-init c =
 
 pub loop-cell-preserved : goal.loop-cell-preserved
 loop-cell-preserved c =
-    let cells = c.as-slice-cells.result.now in
+    let cells = c.as_slice-cells.result.now in
     let n = c.loop-cell.cell-index in
     let x = c.cell-item.result in
     let e = c.cell-item.is in
@@ -27,6 +27,6 @@ loop-cell-preserved c =
 
 pub returns : goal.returns
 returns c =
-    let cells = c.as-slice-cells.result.now in
-    subst (λ (xs : List Cell). Least (words_of xs) (extent c.loop-cell.area)) c.as-slice-cells.ensures.value
+    let cells = c.as_slice-cells.result.now in
+    subst (λ (xs : List Cell). Least (words_of xs) (extent c.loop-cell.area)) c.as_slice-cells.ensures.value
     (around_least cells c.loop-cell.cell-index (extent c.loop-cell.area) c.index-cells-0.result c.loop-cell-test.false c.loop-cell.invariant)

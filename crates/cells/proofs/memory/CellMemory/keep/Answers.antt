@@ -7,8 +7,8 @@ use Rattle.cells.proofs.Order.{ordered_set, ordered_inserted}
 use Rattle.cells.proofs.Words.{stands_found, none_absent, words_inserted, words_set}
 use Rattle.cells.proofs.memory.CellMemory.keep.Goals as goal
 
-pub invariant-of-self : goal.invariant-of-self
-invariant-of-self c =
+pub invariant_of-self : goal.invariant_of-self
+invariant_of-self c =
     let m = c.args.self.now in
     let x : Cell = record { at = c.args.at; id = c.args.id } in
     let f = rw c.deref.ensures.value at c.in-Ok.ensures in
@@ -30,8 +30,8 @@ returns-in-Ok c =
       same = λ e. absurd (true≢false e);
     }
 
-pub invariant-of-self-then-len-self : goal.invariant-of-self-then-len-self
-invariant-of-self-then-len-self c =
+pub invariant_of-self-then-len-self : goal.invariant_of-self-then-len-self
+invariant_of-self-then-len-self c =
     let m = c.args.self.now in
     let x : Cell = record { at = c.args.at; id = c.args.id } in
     let f = rw c.deref.ensures.value at c.in-Err.ensures in
@@ -54,7 +54,7 @@ returns-then-len-self c =
     let f = rw c.deref.ensures.value at c.in-Err.ensures in
     let room : vec_len m.cells < vec_capacity m.cells = let h = m.room in omega arith in
     let done = c.insert.ensures.succeeds room in
-    let yes' : c.is-ok.result ≡ true = c.is-ok.ensures.value ∙ done in
+    let yes' : c.is_ok.result ≡ true = c.is_ok.ensures.value ∙ done in
     let missing : stands_at m c.args.at ≡ false = none_absent m.cells.items c.args.at c.in-Err.index f in
     record {
       kept = record {

@@ -6,8 +6,8 @@ use Rattle.cells.proofs.Order.{ordered_removed}
 use Rattle.cells.proofs.Words.{stands_found, none_absent, words_removed}
 use Rattle.cells.proofs.memory.CellMemory.remove.Goals as goal
 
-pub invariant-of-self : goal.invariant-of-self
-invariant-of-self c =
+pub invariant_of-self : goal.invariant_of-self
+invariant_of-self c =
     let m = c.args.self.now in
     let v = c.remove.new.self in
     let d = c.remove.result in

@@ -5,9 +5,9 @@ use Rattle.references.proofs.Pieces.{first_split, step_itself, step_reference, n
 use Rattle.references.proofs.Reading.{laws}
 use Rattle.references.proofs.characters.Characters.next.Goals as goal
 
-pub returns-in-default : goal.returns-in-default
-returns-in-default c =
-    let empty : c.args.self.now.rest.now ≡ [] = sym c.chars-characters.ensures.rest ∙ nil_from_length _ c.in-default.ensures.steps.0.0 in
+pub returns-in_default : goal.returns-in_default
+returns-in_default c =
+    let empty : c.args.self.now.rest.now ≡ [] = sym c.chars-characters.ensures.rest ∙ nil_from_length _ c.in_default.ensures.steps.0.0 in
     record { next = (empty, empty); laws = laws }
 
 pub returns-then-first-ne38 : goal.returns-then-first-ne38
@@ -15,24 +15,24 @@ returns-then-first-ne38 c =
     let is_scalar : scalar c.in-Some.first ≡ true = search rules in
     record {
       next =
-          step_itself c.args.self.now.rest.now c.as-str-after.result.now c.in-Some.first is_scalar
-          (first_split c.in-Some.first c.chars-characters.ensures.rest c.in-Some.ensures.steps.0 c.as-str-after.ensures)
+          step_itself c.args.self.now.rest.now c.as_str-after.result.now c.in-Some.first is_scalar
+          (first_split c.in-Some.first c.chars-characters.ensures.rest c.in-Some.ensures.steps.0 c.as_str-after.ensures)
           c.if-first-ne38.true;
       laws = laws;
     }
 
-pub returns-in-default-reference : goal.returns-in-default-reference
-returns-in-default-reference c =
-    let split = first_split c.in-Some.first c.chars-characters.ensures.rest c.in-Some.ensures.steps.0 c.as-str-after.ensures in
-    let none = no_piece c.args.self.now.rest.now c.as-str-after.result.now c.in-Some.first split c.if-first-ne38.false c.in-default-reference.ensures in
+pub returns-in_default-reference : goal.returns-in_default-reference
+returns-in_default-reference c =
+    let split = first_split c.in-Some.first c.chars-characters.ensures.rest c.in-Some.ensures.steps.0 c.as_str-after.ensures in
+    let none = no_piece c.args.self.now.rest.now c.as_str-after.result.now c.in-Some.first split c.if-first-ne38.false c.in_default-reference.ensures in
     record { next = (none.0, none.1, refl); laws = laws }
 
 pub returns : goal.returns
 returns c =
     record {
       next =
-          step_reference c.args.self.now.rest.now c.as-str-after.result.now _ c.in-Some.first _
-          (first_split c.in-Some.first c.chars-characters.ensures.rest c.in-Some.ensures.steps.0 c.as-str-after.ensures)
+          step_reference c.args.self.now.rest.now c.as_str-after.result.now _ c.in-Some.first _
+          (first_split c.in-Some.first c.chars-characters.ensures.rest c.in-Some.ensures.steps.0 c.as_str-after.ensures)
           c.if-first-ne38.false
           c.in-Some-reference.ensures;
       laws = laws;

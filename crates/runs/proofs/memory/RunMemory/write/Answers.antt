@@ -9,12 +9,12 @@ use Rattle.runs.proofs.memory.RunMemory.write.Goals as goal
 overlaid : {X Z : Type 0} (memory : Vec X Z) (lent last xs : List X) → lent ≡ vec_items memory → length lent ≡ vec_len memory → length last ≡ length lent → last ≡ overlay xs lent → vec_items (with_items memory last) ≡ overlay xs (vec_items memory)
 overlaid memory lent last xs value len kept after = with_items_is memory last (kept ∙ len) ∙ after ∙ ap (overlay xs) value
 
-pub invariant-of-self : goal.invariant-of-self
-invariant-of-self g c =
+pub invariant_of-self : goal.invariant_of-self
+invariant_of-self g c =
     let memory = c.args.self.now in
     let packed = c.pack-needed.ensures in
     let used = c.min-self.result in
-    let lent = c.deref-mut-2 in
+    let lent = c.deref_mut-2 in
     let ends = overlaid memory.ends lent.result.now c.pack-needed.new.ends (map (λ r. r.end) packed.runs) lent.ensures.value lent.ensures.len c.pack-needed.auto.ends packed.ends_after in
     let in_runs : used ≤ length packed.runs = omega (arith, packed.length_is) in
     let in_ends : used ≤ length (vec_items memory.ends) = omega (arith, ap length lent.ensures.value) in
@@ -25,8 +25,8 @@ pub returns : goal.returns
 returns g c =
     let memory = c.args.self.now in
     let packed = c.pack-needed.ensures in
-    let marks = c.deref-mut in
-    let ends = c.deref-mut-2 in
+    let marks = c.deref_mut in
+    let ends = c.deref_mut-2 in
     record {
       packed = record {
         runs = packed.runs;
@@ -37,6 +37,6 @@ returns g c =
         ends_after = overlaid memory.ends ends.result.now c.pack-needed.new.ends (map (λ r. r.end) packed.runs) ends.ensures.value ends.ensures.len c.pack-needed.auto.ends packed.ends_after;
       };
       used = omega arith;
-      marks-len = refl {a = vec_len memory.marks};
-      ends-len = refl {a = vec_len memory.ends};
+      marks_len = refl {a = vec_len memory.marks};
+      ends_len = refl {a = vec_len memory.ends};
     }
