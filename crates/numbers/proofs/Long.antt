@@ -1,7 +1,7 @@
 -- The fraction w / p rounded by whole numbers: 53 binary digits of it, and the power of two that they count.
 use Rattle.std.proofs.Common.{◌≡◌, ℕ, zero, suc, ◌+◌, ◌-◌, ◌*◌, ◌/◌, ◌%◌, ◌^◌, ◌<◌, ◌≤◌, Bool, true, false, not, T, sym, refl, ap, ◌∙◌, subst, le_trans, lt_of_lt_of_le, mul-le-mul_right, mul_assoc, mul_comm, div-lt_iff_lt-mul, mul-lt-mul_of_pos_right, mul-pos, lt_of_not-le, le-div_iff_mul-le, not-le_of_lt, mul_left_comm, arith, pow_pos, pow_mono, pow-add, shl_lt}
 use Prim.Native.Nat.{compare}
-use native.Mathlib.Nat.{mod_le}
+use native.Mathlib.Nat.{mod-le}
 use lib.Ieee.{binary64, size, round, of_bits, nan_bits}
 use lib.Ieee.Digits.{size-lt, size-le}
 use lib.Ieee.Exact.{HasValue}
@@ -104,4 +104,4 @@ long_digits w p c b q P e least most d =
 
 -- bits below those of infinity are no NaN's
 pub no_nan : (n : ℕ) → n ≤ 2047 * 2 ^ 52 → T (not (nan_bits binary64 n))
-no_nan n h = subst (λ (b : Bool). T (not b)) (sym (nan_bits_above binary64 n ∙ le-ltb (2047 * 2 ^ 52) (n % 2 ^ 63) (le_trans (mod_le n (2 ^ 63)) h))) tt
+no_nan n h = subst (λ (b : Bool). T (not b)) (sym (nan_bits_above binary64 n ∙ le-ltb (2047 * 2 ^ 52) (n % 2 ^ 63) (le_trans (mod-le n (2 ^ 63)) h))) tt

@@ -1,6 +1,6 @@
 -- The powers of ten that binary64 has.
 use Rattle.std.proofs.Common.{◌≡◌, ℕ, zero, suc, ◌*◌, ◌^◌, ◌<◌, ◌≤◌, false, List, [], ◌∷◌, length, get_or, refl, ap, pow-suc, arith}
-use native.Mathlib.Nat.{one_le_pow, pow_le_pow_right}
+use native.Mathlib.Nat.{one-le-pow, pow-le-pow_right}
 use lib.Ieee.{Float, nan, binary64, of_bits}
 use lib.Ieee.Exact.{HasValue}
 
@@ -25,7 +25,7 @@ pub power_value : (k : ℕ) → k ≤ 18 → HasValue (get_or powers k nan) fals
 power_value k h = let e : 1 * 10 ^ k ≡ 10 ^ k = omega arith in rw (← e) (at powers 1 k tenfold (omega arith))
 
 pub power_pos : (k : ℕ) → 0 < 10 ^ k
-power_pos k = omega (arith, one_le_pow k 10 (omega arith))
+power_pos k = omega (arith, one-le-pow k 10 (omega arith))
 
 pub power_le : (k : ℕ) → k ≤ 18 → 10 ^ k ≤ 10 ^ 18
-power_le k h = pow_le_pow_right (omega arith) h
+power_le k h = pow-le-pow_right (omega arith) h

@@ -12,7 +12,7 @@ invariant_of-self c =
     let m = c.args.self.now in
     let x : Cell = record { at = c.args.at; id = c.args.id } in
     let f = rw c.deref.ensures.value at c.in-Ok.ensures in
-    (ordered_set m.cells.items c.in-Ok.index x x f.within (f.at x) m.ordered, (m.few, (m.room, tt)))
+    record { ordered = ordered_set m.cells.items c.in-Ok.index x x f.within (f.at x) m.ordered; few = m.few; room = m.room }
 
 pub returns-in-Ok : goal.returns-in-Ok
 returns-in-Ok c =
@@ -41,11 +41,14 @@ invariant_of-self-then-len-self c =
     let room : vec_len m.cells < vec_capacity m.cells = let h = m.room in omega arith in
     let done = c.insert.ensures.succeeds room in
     let one_more = c.insert.ensures.len ∙ cond-true _ _ _ done in
-    let places = c.insert.ensures.by_index in (
-      ordered_inserted m.cells.items (vec_items v) c.in-Err.index m.ordered x (omega arith) (places.0 x done) (λ k h. places.1 k x h) (λ k h. places.2 k x done h)
-          (λ k h. f.before k x h) (λ k h l. f.after k x h l) f.within,
-      (omega arith, (let same = (c.insert.ensures.in_place room).1.0 in let h = m.room in omega arith, tt)),
-    )
+    let places = c.insert.ensures.by_index in
+    record {
+      ordered =
+          ordered_inserted m.cells.items (vec_items v) c.in-Err.index m.ordered x (omega arith) (places.0 x done) (λ k h. places.1 k x h) (λ k h. places.2 k x done h)
+          (λ k h. f.before k x h) (λ k h l. f.after k x h l) f.within;
+      few = omega arith;
+      room = let same = (c.insert.ensures.in_place room).1.0 in let h = m.room in omega arith;
+    }
 
 pub returns-then-len-self : goal.returns-then-len-self
 returns-then-len-self c =

@@ -13,10 +13,13 @@ invariant_of-self c =
     let d = c.remove.result in
     let places = c.remove.ensures.by_index in
     let long = v.ok.0 in
-    let was = m.cells.ok.0 in (
-      ordered_removed m.cells.items (vec_items v) c.in-Ok.index m.ordered d (omega arith) (λ k h. places.0 k d h) (λ k h. places.1 k d h),
-      (omega arith, (omega arith, tt)),
-    )
+    let was = m.cells.ok.0 in
+    record {
+      ordered =
+          ordered_removed m.cells.items (vec_items v) c.in-Ok.index m.ordered d (omega arith) (λ k h. places.0 k d h) (λ k h. places.1 k d h);
+      few = omega arith;
+      room = omega arith;
+    }
 
 pub returns-in-Ok : goal.returns-in-Ok
 returns-in-Ok c =

@@ -19,7 +19,7 @@ invariant_of-self g c =
     let in_runs : used ≤ length packed.runs = omega (arith, packed.length_is) in
     let in_ends : used ≤ length (vec_items memory.ends) = omega (arith, ap length lent.ensures.value) in
     let rising = subst (λ l. Rises (take used l) × FirstAboveZero (take used l)) (sym ends) (front_rises packed.packing used in_runs (vec_items memory.ends) in_ends) in
-    (omega arith, (omega arith, (rising.0, (rising.1, tt))))
+    record { marks_within = omega arith; ends_within = omega arith; rising = rising.0; first = rising.1 }
 
 pub returns : goal.returns
 returns g c =
