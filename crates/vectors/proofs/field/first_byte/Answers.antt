@@ -9,6 +9,6 @@ returns-then-field-ne37 c =
 
 pub returns : goal.returns
 returns c =
-    let digits = c.in-ok-byte.ensures in
+    let digits = c.in_ok-byte.ensures in
     let long : 3 ≤ length c.args.field.now = omega (arith, c.if-field-lt3.false) in
-    byte_escaped c.args.field.now c.in-ok-byte.byte long c.if-field-ne37.false digits.0.0 digits.0.1 digits.1
+    byte_escaped c.args.field.now c.in_ok-byte.byte long c.if-field-ne37.false digits.0.0 digits.0.1 digits.1

@@ -4,4 +4,4 @@ use Rattle.vectors.proofs.fronts.begins_with.Goals as goal
 use Rattle.std.proofs.lemmas.Bool.Decides.{Decides-eqb}
 
 pub returns : goal.returns
-returns c e = sym ((slice_eq-Decides Decides-eqb _ _ c.starts-with.result c.starts-with.ensures.value).0 e)
+returns c e = sym ((slice_eq-Decides Decides-eqb _ _ c.starts_with.result c.starts_with.ensures.value).0 e)

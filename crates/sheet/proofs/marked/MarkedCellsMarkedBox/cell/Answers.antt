@@ -16,10 +16,10 @@ pub unreachable-requires : goal.unreachable-requires
 unreachable-requires g c =
     let b = c.args.self.now in
     place_there (extent b.area) b.cells.now c.args.index c.index-self-index.result c.row.result c.column.result
-    (omega arith) (held_from (extent b.area) b.cells.now b.held) c.row.ensures c.column.ensures c.in-default.ensures
+    (omega arith) (held_from (extent b.area) b.cells.now b.held) c.row.ensures c.column.ensures c.in_default.ensures
 
 pub returns : goal.returns
 returns g c =
     let b = c.args.self.now in
-    nth_placed (extent b.area) (g.K.Marking.of b.marking) b.cells.now c.args.index c.index-self-index.result c.row.result c.column.result c.in-Some.place c.mark-of-mark.result
-    (omega arith) (held_from (extent b.area) b.cells.now b.held) c.row.ensures c.column.ensures c.in-Some.ensures c.mark-of-mark.ensures
+    nth_placed (extent b.area) (g.K.Marking.of b.marking) b.cells.now c.args.index c.index-self-index.result c.row.result c.column.result c.in-Some.place c.mark_of-mark.result
+    (omega arith) (held_from (extent b.area) b.cells.now b.held) c.row.ensures c.column.ensures c.in-Some.ensures c.mark_of-mark.ensures

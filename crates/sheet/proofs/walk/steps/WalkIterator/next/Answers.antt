@@ -16,13 +16,13 @@ returns g c =
     let palette = w.palette.now in
     let a = extent w.positions.area in
     let runs = runs_of w.ids.table.marks.now w.ids.table.ends.now in
-    let at = c.in-ok-at.ensures in
+    let at = c.in_ok-at.ensures in
     let inside = at.item.0 in
     let p = place w.positions in
     let same = level_mark runs w.ids.place p (w.behind inside) (w.level inside) in
     let style : option_map (λ x. x.now) c.match-next.style ≡ styled palette (mark_at runs p) =
     elim c.match-next.branch [
-      | in-Some v ↦ ap (option_map (λ x. x.now)) v.style-is ∙ v.style-of-style.ensures ∙ ap (styled palette) (sym v.in-Some.is ∙ c.next-2.ensures.value ∙ same)
+      | in-Some v ↦ ap (option_map (λ x. x.now)) v.style-is ∙ v.style_of-style.ensures ∙ ap (styled palette) (sym v.in-Some.is ∙ c.next-2.ensures.value ∙ same)
       | in-None v ↦ ap (option_map (λ x. x.now)) v.style-is ∙ ap (styled palette) (sym v.in-None.is ∙ c.next-2.ensures.value ∙ same)
     ] in
     record {
