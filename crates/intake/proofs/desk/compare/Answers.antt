@@ -5,12 +5,12 @@ use Rattle.intake.proofs.desk.compare.Goals as goal
 pub returns : goal.returns
 returns c loader-stands floor-stands =
     let palette = c.args.palette.now in
-    let played = c.play-both-played.result in
-    let promise = c.play-both-played.ensures in
+    let played = c.play_both-played.result in
+    let promise = c.play_both-played.ensures in
     let loader = c.args.loader.now in
     let floor = c.args.floor.now in
-    let loader_room = c.in-ok-loader-memory.ensures in
-    let floor_room = c.in-ok-floor-memory.ensures in
+    let loader_room = c.in_ok-loader_memory.ensures in
+    let floor_room = c.in_ok-floor_memory.ensures in
     decided_of_same played.agree played.loader played.floor loader.sheet floor.sheet
     (replayed palette loader.cells loader.runs _ _ _ _ loader.sheet played.loader loader_room.cell_room_is loader_room.run_room_is c.deref.ensures.value loader-stands promise.loader)
     (replayed palette floor.cells floor.runs _ _ _ _ floor.sheet played.floor floor_room.cell_room_is floor_room.run_room_is c.deref-2.ensures.value floor-stands promise.floor)

@@ -6,5 +6,5 @@ use Rattle.intake.proofs.parsing.number_of.Goals as goal
 pub returns-then-bytes-eq43 : goal.returns-then-bytes-eq43
 returns-then-bytes-eq43 c h =
     let first = digit_at c.args.word.now 0 h.0.1 h.0.0 in
-    let same = ap (λ bytes. get_or bytes 0 0) c.as-bytes-bytes.ensures.value in
+    let same = ap (λ bytes. get_or bytes 0 0) c.as_bytes-bytes.ensures.value in
     omega (arith, first.0, first.1, same, c.if-bytes-eq43.true)
