@@ -1,9 +1,8 @@
 //! Date kinds: what a cell's number format makes of its number.
 #![tactic(auto)]
 
-ghost use Rattle.formats.specs.Kinds.{same_kind, kind_name};
+ghost use Rattle.formats.specs.Kinds.{same_kind, same_kind_decides, kind_name};
 ghost use Rattle.std.specs.Prelude.{Some};
-ghost use Rattle.std.proofs.Common.{rules};
 
 use runs::Mark;
 use std::fmt;
@@ -20,7 +19,7 @@ pub enum CellFormat {
 impl Mark for CellFormat {
     ghost agrees = { same_kind };
 
-    ghost exact = { Prim.search rules };
+    ghost exact = { same_kind_decides };
 
     fn same(&self, other: &CellFormat) -> bool {
         *self == *other

@@ -2,7 +2,7 @@
 ghost use Rattle.std.specs.Prelude.{◌≡◌, ℕ, ◌^◌, ◌≤◌};
 ghost use Rattle.std.specs.Option.{option_map};
 ghost use Rattle.numbers.specs.Numerals.{below};
-ghost use Rattle.std.proofs.Common.{rules};
+ghost use Rattle.std.proofs.Common.{lit≤};
 
 /// A type of whole number that an attribute may be read as.
 pub trait Whole: Sized {
@@ -24,7 +24,7 @@ impl Whole for u8 {
 
     ghost limit = { 2 ^ 8 };
 
-    ghost bounded = { Prim.search rules };
+    ghost bounded = { lit≤ tt };
 
     fn narrow(number: u64) -> Option<u8> {
         if number < 0x100 {
@@ -40,7 +40,7 @@ impl Whole for u16 {
 
     ghost limit = { 2 ^ 16 };
 
-    ghost bounded = { Prim.search rules };
+    ghost bounded = { lit≤ tt };
 
     fn narrow(number: u64) -> Option<u16> {
         if number < 0x1_0000 {
@@ -56,7 +56,7 @@ impl Whole for u32 {
 
     ghost limit = { 2 ^ 32 };
 
-    ghost bounded = { Prim.search rules };
+    ghost bounded = { lit≤ tt };
 
     fn narrow(number: u64) -> Option<u32> {
         if number < 0x1_0000_0000 {
@@ -72,7 +72,7 @@ impl Whole for usize {
 
     ghost limit = { 2 ^ 64 };
 
-    ghost bounded = { Prim.search rules };
+    ghost bounded = { lit≤ tt };
 
     fn narrow(number: u64) -> Option<usize> {
         Some(number as usize)

@@ -1,6 +1,6 @@
 //! What a mark is: a value that can be compared.
 ghost use Rattle.std.specs.Prelude.{◌≡◌, Bool, Decides, nat_eq};
-ghost use Rattle.std.proofs.Common.{rules};
+ghost use Rattle.std.proofs.lemmas.Bool.Decides.{Decides-eqb};
 
 /// A value that a run repeats. Its comparison says yes exactly where both values are equal; it is
 /// never refused, and lent for reading only, so it changes neither.
@@ -18,7 +18,7 @@ pub trait Mark: Copy {
 impl Mark for u32 {
     ghost agrees = { nat_eq };
 
-    ghost exact = { Prim.search rules };
+    ghost exact = { Decides-eqb };
 
     fn same(&self, other: &u32) -> bool {
         *self == *other

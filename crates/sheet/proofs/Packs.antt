@@ -7,7 +7,7 @@ use Rattle.runs.specs.Marks.{mark_of}
 use Rattle.runs.specs.Memory.{Packed, overlay, runs_of}
 use Rattle.runs.specs.declared.memory.RunMemory.{RunMemory}
 use Rattle.runs.proofs.Laws.{packing_same, packing_exists, one_packing, front_runs}
-use Rattle.formats.specs.Kinds.{same_kind}
+use Rattle.formats.specs.Kinds.{same_kind, same_kind_decides}
 use Rattle.formats.specs.declared.CellFormat.{CellFormat}
 use Rattle.formats.specs.declared.CellFormat.TheVariants.{Other, DateTime, TimeDelta}
 use Rattle.cells.specs.declared.cell.Cell.{Cell}
@@ -66,17 +66,6 @@ holds_packed spot n needed m m' p used_by marks_len ends_len fits =
     used_is = omega arith
 
 -- date kinds can be compared, so that packing's list exists
-same_kind_decides : (a b : CellFormat) → Decides (same_kind a b) (a ≡ b)
-same_kind_decides Other Other = (λ _. refl, λ _. refl)
-same_kind_decides Other DateTime = (λ e. cc, λ e. cc)
-same_kind_decides Other TimeDelta = (λ e. cc, λ e. cc)
-same_kind_decides DateTime Other = (λ e. cc, λ e. cc)
-same_kind_decides DateTime DateTime = (λ _. refl, λ _. refl)
-same_kind_decides DateTime TimeDelta = (λ e. cc, λ e. cc)
-same_kind_decides TimeDelta Other = (λ e. cc, λ e. cc)
-same_kind_decides TimeDelta DateTime = (λ e. cc, λ e. cc)
-same_kind_decides TimeDelta TimeDelta = (λ _. refl, λ _. refl)
-
 pub kinds_exist : (spot : ℕ → CellFormat) (n : ℕ) → (runs : List (Run CellFormat)) × Packing spot n runs
 kinds_exist = packing_exists same_kind same_kind_decides
 
