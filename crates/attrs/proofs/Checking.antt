@@ -1,15 +1,15 @@
 -- A check of all items, item by item.
-use Rattle.std.proofs.Common.{◌≡◌, ℕ, ◌<◌, true, ltb, ◌⊎◌, List, [], ◌∷◌, ◌++◌, Decides, sym, refl, ap, ◌∙◌, subst, inl, inr, ⊎_elim, arith}
+use Rattle.std.proofs.Common.{ℕ, ltb, List, [], ◌∷◌, ◌++◌, Decides, refl, ap, subst, inl, inr, ⊎_elim, arith}
 use Rattle.std.proofs.lemmas.Bool.Decides.{Decides-ltb}
 use Rattle.attrs.specs.Bytes.{white, All}
 use Rattle.attrs.specs.Grammar.{Attribute, First, Front, Has, Distinct, WellFormed, past}
 use Rattle.attrs.specs.Flaws.{Faulty, FirstFault}
-use Rattle.attrs.specs.Items.{FoundAt, NotFound, Unambiguous}
+use Rattle.attrs.specs.Items.{FoundAt, Unambiguous}
 use Rattle.attrs.specs.Seen.{key_number, Marked}
 use Rattle.attrs.specs.declared.fault.Flaw.TheVariants.{Repeated}
 use Rattle.attrs.specs.declared.fault.Fault.{Fault}
 use Rattle.attrs.proofs.Fronts.{front_push, has_push, distinct_push, items_one, fault_one, fault_not_formed}
-use Rattle.attrs.proofs.Finding.{repeated_or_first, not_missing}
+use Rattle.attrs.proofs.Finding.{repeated_or_first}
 
 -- The items so far are well-formed, their keys are distinct, and the bits of each key are set.
 pub record Sound (place : ℕ) (bytes words : List ℕ) (end : ℕ) (rest : List ℕ) : Type 0 where

@@ -1,11 +1,9 @@
 -- Look-up of a key, item by item.
-use Rattle.std.proofs.Common.{◌≡◌, ℕ, ◌+◌, ◌<◌, ◌≤◌, ◌⊎◌, List, [], ◌∷◌, ◌++◌, length, drop, sym, refl, ap, ◌∙◌, subst, inl, inr, ⊎_elim, arith}
+use Rattle.std.proofs.Common.{◌≡◌, ℕ, ◌<◌, ◌≤◌, ◌⊎◌, List, [], ◌∷◌, ◌++◌, length, drop, sym, refl, ap, ◌∙◌, subst, inl, inr, ⊎_elim, arith}
 use Rattle.std.proofs.lemmas.List.{length-drop}
 use Rattle.attrs.specs.Bytes.{white, All}
 use Rattle.attrs.specs.Grammar.{Attribute, First, Front, Has, WellFormed, past}
-use Rattle.attrs.specs.Flaws.{Faulty}
 use Rattle.attrs.specs.Items.{Ended, FoundAt, NotFound, In}
-use Rattle.attrs.specs.declared.fault.Fault.{Fault}
 use Rattle.attrs.proofs.Uniqueness.{first_one, first_forward, value_ends, blank_not_first, faulty_not_first}
 use Rattle.attrs.proofs.Fronts.{at_start, follows, front_push, front_forward, has_push}
 

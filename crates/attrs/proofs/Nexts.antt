@@ -1,5 +1,5 @@
 -- What a call of `next` says of the text that was there at the start, which does not change.
-use Rattle.std.proofs.Common.{◌≡◌, ℕ, List, drop, Some, None, Ok, Err, Option, sym, refl, ap, ◌∙◌, subst}
+use Rattle.std.proofs.Common.{◌≡◌, ℕ, List, drop, Some, None, Ok, Err, Option, ◌∙◌, subst}
 use Rattle.attrs.specs.Bytes.{white, All}
 use Rattle.attrs.specs.Grammar.{First, past}
 use Rattle.attrs.specs.Flaws.{Faulty}

@@ -3,12 +3,12 @@ use Rattle.std.proofs.Common.{◌≡◌, ℕ, ◌+◌, ◌-◌, ◌<◌, ◌≤�
 use Rattle.std.proofs.lemmas.List.{drop_more, drop_all, take_rest, length-take, length-drop, length-append}
 use Rattle.attrs.specs.Bytes.{white, quote, key_byte, except, All, Begins, Run}
 use Rattle.attrs.specs.Grammar.{Keyed, Quoted, Apart, Indented, First}
-use Rattle.attrs.specs.Flaws.{Unquoted, Unclosed, Joined, ValueFlaw, ItemFlaw, Faulty}
+use Rattle.attrs.specs.Flaws.{Unquoted, Unclosed, ValueFlaw, ItemFlaw, Faulty}
 use Rattle.attrs.specs.declared.fault.Flaw.{Flaw}
 use Rattle.attrs.specs.declared.fault.Flaw.TheVariants.{BadKey, NoSpace, NoQuote, NotClosed, Repeated}
 use Rattle.attrs.specs.declared.fault.Fault.{Fault}
 use Rattle.attrs.proofs.Runs.{split, stops_at_end, stops_here}
-use Rattle.attrs.proofs.Splits.{keyed_is, excepted, never}
+use Rattle.attrs.proofs.Splits.{keyed_is, excepted}
 
 module _ (xs : List ℕ) (start end equals : ℕ) (key : Run key_byte xs start end) (gap : Run white xs end equals) where
   pub key_there : start < end → equals < length xs → get_or xs equals 0 ≡ 61 → Keyed (drop start xs) (take (end - start) (drop start xs)) (drop (equals + 1) xs)

@@ -1,14 +1,14 @@
 -- What stands first in attribute text is one thing, and so its items and its first fault are.
-use Rattle.std.proofs.Common.{◌≡◌, ℕ, ◌+◌, ◌<◌, ◌≤◌, Bool, true, false, not, ◌⊎◌, List, [], ◌∷◌, ◌++◌, length, sym, refl, ap, ◌∙◌, subst, inl, inr, ⊎_elim, arith}
-use Rattle.std.proofs.lemmas.List.{append-nil, length-append}
+use Rattle.std.proofs.Common.{◌≡◌, ℕ, ◌+◌, ◌<◌, ◌≤◌, Bool, true, not, List, [], ◌∷◌, ◌++◌, length, sym, refl, ap, ◌∙◌, subst, arith}
+use Rattle.std.proofs.lemmas.List.{length-append}
 use Rattle.attrs.specs.Bytes.{white, quote, except, All, Begins}
-use Rattle.attrs.specs.Grammar.{Attribute, Keyed, Quoted, Apart, Indented, First, Front, Has, Distinct, WellFormed, past}
-use Rattle.attrs.specs.Flaws.{Unquoted, Unclosed, Joined, ValueFlaw, ItemFlaw, Faulty, Repeats, FirstFault}
+use Rattle.attrs.specs.Grammar.{Attribute, Keyed, Quoted, Apart, Indented, First, past}
+use Rattle.attrs.specs.Flaws.{Unquoted, Unclosed, Joined, ValueFlaw, ItemFlaw, Faulty}
 use Rattle.attrs.specs.Items.{OneFirst}
 use Rattle.attrs.specs.declared.fault.Flaw.{Flaw}
 use Rattle.attrs.specs.declared.fault.Flaw.TheVariants.{BadKey, NoSpace, NoQuote, NotClosed, Repeated}
 use Rattle.attrs.specs.declared.fault.Fault.{Fault}
-use Rattle.attrs.proofs.Splits.{munch, never, head_same, keyed_one, quoted_one, quote_begins_dark, opened, mark_excepted}
+use Rattle.attrs.proofs.Splits.{munch, never, keyed_one, quoted_one, quote_begins_dark, opened, mark_excepted}
 
 -- ---- white space in front
 

@@ -1,6 +1,6 @@
 -- What can be wrong with attribute text, and which fault comes first: items go before later ones, and within an item lower
 -- numbers before higher ones.
-use Rattle.std.specs.Prelude.{◌≡◌, ℕ, ◌+◌, true, not, ◌⊎◌, List, [], ◌∷◌, ◌++◌, length}
+use Rattle.std.specs.Prelude.{◌≡◌, ℕ, ◌+◌, true, not, ◌⊎◌, List, ◌∷◌, ◌++◌, length}
 use Rattle.attrs.specs.Bytes.{white, quote, except, All, Begins}
 use Rattle.attrs.specs.Grammar.{Attribute, Keyed, Quoted, Indented, First, Front, Has, Distinct}
 use Rattle.attrs.specs.declared.fault.Flaw.{Flaw}

@@ -1,7 +1,7 @@
 -- The grammar of attribute text, after XML 1.0: items of a key, an equals sign and a quoted value, with white space before
 -- each item and around its equals sign. It is wider than that of XML in what a key and a value may hold. A place counts bytes of
 -- the whole text, of which attribute text is a part.
-use Rattle.std.specs.Prelude.{◌≡◌, ℕ, ◌+◌, ◌<◌, Bool, true, not, ◌⊎◌, List, [], ◌∷◌, ◌++◌, length}
+use Rattle.std.specs.Prelude.{◌≡◌, ℕ, ◌+◌, ◌<◌, true, not, ◌⊎◌, List, [], ◌∷◌, ◌++◌, length}
 use Rattle.attrs.specs.Bytes.{white, quote, key_byte, except, All, Begins}
 
 -- an item: its key, its value without the quotes, and where each of the two begins

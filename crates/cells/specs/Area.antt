@@ -1,5 +1,5 @@
 -- A rectangle of a sheet's rows and columns, and the numbers of its positions, counted row by row from 0.
-use Rattle.std.specs.Prelude.{◌≡◌, ℕ, ◌+◌, ◌-◌, ◌*◌, ◌/◌, ◌%◌, ◌<◌, ◌≤◌, min, max, Bool, cond, ◌&&◌, Some, None, Option, nat_le}
+use Rattle.std.specs.Prelude.{ℕ, ◌+◌, ◌-◌, ◌*◌, ◌/◌, ◌%◌, ◌≤◌, min, max, Bool, cond, ◌&&◌, Some, None, Option, nat_le}
 use Rattle.cells.specs.declared.bounding_box.BoundingBox.{BoundingBox}
 
 -- the first row and column and the last ones

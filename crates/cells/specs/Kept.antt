@@ -1,5 +1,5 @@
 -- What keeping and forgetting a cell do to the words of a cell memory.
-use Rattle.std.specs.Prelude.{◌≡◌, ℕ, ◌+◌, Bool, true, false, cond, not, ◌||◌, is_some, Some, None, vec_items, vec_len, nat_lt}
+use Rattle.std.specs.Prelude.{◌≡◌, ℕ, ◌+◌, Bool, true, cond, ◌||◌, is_some, Some, None, vec_items, vec_len, nat_lt}
 use Rattle.cells.specs.declared.memory.CellMemory.{CellMemory}
 use Rattle.cells.specs.declared.position.Position.{Position}
 use Rattle.cells.specs.Words.{Words, words_of, reworded}

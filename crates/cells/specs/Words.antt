@@ -1,6 +1,6 @@
 -- What a list of cells says of each position: the id of the cell there, or none. And the least box around the positions
 -- that have one.
-use Rattle.std.specs.Prelude.{◌≡◌, ℕ, ◌+◌, ◌*◌, ◌<◌, ◌≤◌, Bool, true, cond, ◌&&◌, List, [], ◌∷◌, map, length, is_some, Some, None, Option, ◌==◌, slice_index}
+use Rattle.std.specs.Prelude.{◌≡◌, ℕ, ◌+◌, ◌*◌, ◌<◌, true, cond, ◌&&◌, List, [], ◌∷◌, map, length, is_some, Some, None, Option, ◌==◌, slice_index}
 use Rattle.cells.specs.Area.{Area, Inside}
 use Rattle.cells.specs.declared.cell.Cell.{Cell}
 use Rattle.cells.specs.declared.position.Position.{Position}

@@ -1,5 +1,5 @@
 -- Two sheets that had the same calls, with the same room, hold the same box and the same runs.
-use Rattle.std.proofs.Common.{◌≡◌, ℕ, Bool, true, false, List, [], ◌∷◌, ◌++◌, reverse, length, is_ok, Some, None, Decides, MatchBool, Option, sym, refl, ap, ◌∙◌, subst, ap₂}
+use Rattle.std.proofs.Common.{◌≡◌, ℕ, Bool, true, false, List, [], ◌∷◌, ◌++◌, reverse, length, is_ok, Some, Decides, MatchBool, Option, sym, refl, ap, ◌∙◌, subst, ap₂}
 use Rattle.std.proofs.lemmas.List.{reverse-append}
 use Rattle.std.proofs.lemmas.Bool.{true≢false}
 use Rattle.cells.specs.Words.{Words}

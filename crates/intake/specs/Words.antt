@@ -1,5 +1,5 @@
 -- What words of a line mean.
-use Rattle.std.specs.Prelude.{◌≡◌, ℕ, ◌^◌, ◌<◌, List, codes, Result}
+use Rattle.std.specs.Prelude.{ℕ, ◌^◌, ◌<◌, List, codes, Result}
 use Rattle.std.specs.Result.{OkIff}
 use Rattle.std.specs.Str.Parse.{IsNumeral, digits_value}
 use Rattle.intake.specs.declared.command.DeskName.{DeskName}

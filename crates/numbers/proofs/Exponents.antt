@@ -1,10 +1,10 @@
 -- The sign and the exponent of a decimal, and the power of ten under its digits.
-use Rattle.std.proofs.Common.{◌≡◌, ℕ, zero, suc, ◌+◌, ◌-◌, ◌*◌, ◌^◌, ◌<◌, ◌≤◌, Bool, true, false, cond, ◌&&◌, ltb, leb, ◌⊎◌, List, [], ◌∷◌, length, drop, ℤ, pos, negsuc, ◌-ℤ◌, neg_ℤ, Some, None, Option, sym, refl, ap, ◌∙◌, subst, inl, inr, arith}
+use Rattle.std.proofs.Common.{◌≡◌, ℕ, zero, suc, ◌+◌, ◌^◌, ◌<◌, ◌≤◌, Bool, true, false, cond, ◌&&◌, ◌⊎◌, List, [], ◌∷◌, drop, pos, ◌-ℤ◌, Some, None, Option, sym, refl, ap, ◌∙◌, inl, inr, arith}
 use Rattle.std.specs.Option.{option_map, option_flatten}
-use Rattle.std.proofs.lemmas.Bool.{lt-ltb, le-ltb, lt-leb, cond-true, cond-false, cases_lt, cases_Bool, true≢false}
+use Rattle.std.proofs.lemmas.Bool.{lt-ltb, lt-leb, cond-true, cond-false, cases_Bool, true≢false}
 use Rattle.numbers.specs.Cuts.{begins, without}
-use Rattle.numbers.specs.Numerals.{numeral, value, below, whole_number}
-use Rattle.numbers.specs.Decimals.{is_minus, is_sign, is_mark, signed, exponent, power_within}
+use Rattle.numbers.specs.Numerals.{numeral, value, whole_number}
+use Rattle.numbers.specs.Decimals.{is_minus, is_sign, is_mark, signed, power_within}
 use Rattle.numbers.specs.Fronts.{power_below}
 use Rattle.numbers.proofs.Fronts.{below_some, below_none}
 

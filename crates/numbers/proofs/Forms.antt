@@ -1,9 +1,9 @@
 -- The parts of a decimal's text, from the digits at its front, a point, the digits after that, and what is left.
-use Rattle.std.proofs.Common.{◌≡◌, ℕ, suc, ◌+◌, ◌-◌, ◌*◌, ◌^◌, ◌<◌, ◌≤◌, Bool, true, false, cond, not, ◌&&◌, ◌||◌, eqb, ltb, leb, ◌⊎◌, List, [], ◌∷◌, ◌++◌, length, drop, ℤ, Some, None, Option, sym, refl, ap, ◌∙◌, subst, inl, inr, append_assoc, append-nil, arith}
+use Rattle.std.proofs.Common.{◌≡◌, ℕ, Bool, true, false, cond, not, ◌&&◌, eqb, leb, List, [], ◌∷◌, ◌++◌, length, drop, ℤ, None, Option, sym, refl, ap, ◌∙◌, inl, inr, append_assoc, append-nil, arith}
 use Rattle.std.specs.Char.{is_ascii_digit}
 use Rattle.std.specs.Str.{all_ascii_digits}
 use Rattle.std.specs.Option.{option_map}
-use Rattle.std.proofs.lemmas.Bool.{leb-true, eqb-true, ne_eqb, or_from, or_cases, and_parts, cond-true, cond-false, cases_Bool, true≢false}
+use Rattle.std.proofs.lemmas.Bool.{leb-true, eqb-true, ne_eqb, or_from, or_cases, and_parts, cond-false, cases_Bool}
 use Rattle.numbers.specs.Cuts.{before_first, from_first, begins, without}
 use Rattle.numbers.specs.Numerals.{numeral}
 use Rattle.numbers.specs.Decimals.{is_point, is_mark, is_sign, mantissa, exponent_part, whole_part, fraction, exponent, Form, form, form_of}

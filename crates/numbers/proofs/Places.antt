@@ -1,5 +1,5 @@
 -- The value of digits, by their places.
-use Rattle.std.proofs.Common.{◌≡◌, ℕ, suc, ◌+◌, ◌-◌, ◌*◌, ◌^◌, List, [], ◌∷◌, length, sym, refl, ap, ◌∙◌, mul_assoc, mul_comm, add-mul, pow-suc, mul-one, arith}
+use Rattle.std.proofs.Common.{◌≡◌, ℕ, suc, ◌+◌, ◌-◌, ◌*◌, ◌^◌, List, [], ◌∷◌, length, sym, ap, ◌∙◌, mul_assoc, mul_comm, add-mul, pow-suc, mul-one, arith}
 use Rattle.numbers.specs.Numerals.{value_after, Positional}
 
 value_after_is : (n : ℕ) (cs : List ℕ) → value_after n cs ≡ n * 10 ^ length cs + value_after 0 cs

@@ -1,5 +1,5 @@
 -- The piece at the front of a raw text: it is determined, it is UTF-8, and it is no shorter than its character.
-use Rattle.std.proofs.Common.{◌≡◌, ℕ, ◌+◌, ◌<◌, ◌≤◌, true, ◌⊎◌, List, [], ◌∷◌, ◌++◌, length, get_or, codes, IsUtf8, sym, refl, ap, ◌∙◌, subst, inl, inr, ⊎_elim, arith, rules}
+use Rattle.std.proofs.Common.{◌≡◌, ℕ, ◌+◌, ◌<◌, ◌≤◌, true, List, [], ◌∷◌, ◌++◌, length, get_or, codes, IsUtf8, sym, refl, ap, ◌∙◌, subst, inl, inr, ⊎_elim, arith, rules}
 use lib.Utf8.{encode, scalar, low_scalar}
 use Rattle.std.proofs.lemmas.List.{append_assoc, length-append}
 use Rattle.std.proofs.lemmas.Str.{encode_same, char_from_byte, IsUtf8-append, IsUtf8-encode, IsUtf8-from_ascii, length-encode, len_utf8_bounds}

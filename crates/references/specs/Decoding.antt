@@ -1,7 +1,7 @@
 -- Decoding the raw text of an attribute value: the text is a row of pieces, each the UTF-8 of a character or a
 -- reference to one (XML 1.0, production AttValue), and it decodes into the characters that the pieces stand for. Wider than
 -- in XML, every character but & may stand for itself, < and control characters too.
-use Rattle.std.specs.Prelude.{◌≡◌, ℕ, ◌+◌, true, ◌⊎◌, List, [], ◌∷◌, ◌++◌, IsUtf8}
+use Rattle.std.specs.Prelude.{◌≡◌, ℕ, true, ◌⊎◌, List, [], ◌∷◌, ◌++◌, IsUtf8}
 use Rattle.std.proofs.Math.Utf8.{encode, encodes, scalar}
 use Rattle.references.specs.Xml.{Reference}
 

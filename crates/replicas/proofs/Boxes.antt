@@ -1,5 +1,5 @@
 -- There is one box around the words, and its sides are in order.
-use Rattle.std.proofs.Common.{◌≡◌, ℕ, ◌≤◌, true, false, is_some, Some, None, Option, sym, refl, ap, ◌∙◌, arith}
+use Rattle.std.proofs.Common.{◌≡◌, ℕ, ◌≤◌, is_some, Some, None, Option, sym, refl, ap, ◌∙◌, arith}
 use Rattle.std.proofs.lemmas.Bool.{true≢false}
 use Rattle.cells.specs.Area.{Area}
 use Rattle.cells.specs.Words.{Words, Least, Bounds}

@@ -1,27 +1,25 @@
 -- The promise about two replicas, from what their sheets stand for.
-use Rattle.std.proofs.Common.{◌≡◌, ℕ, ◌<◌, ◌≤◌, Bool, true, false, cond, ltb, leb, ◌⊎◌, List, [], ◌∷◌, reverse, length, is_some, is_err, Some, None, vec_items, vec_len, Decides, Option, unwrap_or, sym, refl, ap, ◌∙◌, subst, ap₂, inl, inr, ⊎_elim, arith}
+use Rattle.std.proofs.Common.{◌≡◌, ℕ, ◌<◌, ◌≤◌, Bool, true, false, ◌⊎◌, List, [], ◌∷◌, reverse, length, is_some, is_err, Some, None, vec_items, Decides, Option, unwrap_or, sym, refl, ap, ◌∙◌, subst, ap₂, inl, inr, ⊎_elim, arith}
 use mathlib.Core.Path.{fun_ext}
 use Rattle.std.proofs.lemmas.Bool.{cases_Bool, cases_lt, cond-true, cond-false, lt-ltb, le-ltb, true≢false}
 use Rattle.runs.specs.declared.run.Run.{Run}
 use Rattle.runs.specs.Runs.{Packing, Shortest}
 use Rattle.runs.proofs.Laws.{shortest, one_packing, packing_exists}
-use Rattle.formats.specs.declared.CellFormat.{CellFormat}
 use Rattle.cells.specs.declared.cell.Cell.{Cell}
-use Rattle.cells.specs.declared.memory.CellMemory.{CellMemory}
-use Rattle.cells.specs.Area.{Area, Inside, inside}
-use Rattle.cells.specs.Words.{Words, Least, Bounds, Ordered, words_of}
+use Rattle.cells.specs.Area.{Area, inside}
+use Rattle.cells.specs.Words.{Words, Bounds, Ordered, words_of}
 use Rattle.cells.proofs.Places.{inside_true, true_inside}
 use Rattle.sheet.specs.declared.xf.Xf.{Xf}
 use Rattle.sheet.specs.declared.memory.Sheet.{Sheet}
 use Rattle.sheet.specs.Contents.{words, kept, area, id_runs, kind_runs}
-use Rattle.sheet.specs.Palette.{style_at, kind_at}
+use Rattle.sheet.specs.Palette.{kind_at}
 use Rattle.sheet.specs.Packs.{Packs, pack_answer}
-use Rattle.sheet.specs.Reads.{mark_there, styled, got, kind_there, walked_from, walked}
+use Rattle.sheet.specs.Reads.{mark_there, styled, walked_from}
 use Rattle.replicas.specs.declared.call.Call.{Call}
 use Rattle.replicas.specs.History.{last_words, kept_after, Counts}
 use Rattle.replicas.specs.Latest.{Latest, words_at}
 use Rattle.replicas.specs.Stands.{Stands}
-use Rattle.replicas.specs.Promise.{In, Answers, Replica, SameRuns, Alike, SameWords}
+use Rattle.replicas.specs.Promise.{In, Replica, SameRuns, Alike, SameWords}
 use Rattle.replicas.proofs.Words.{word_listed, counts_cells, counts_none}
 use Rattle.replicas.proofs.Boxes.{one_box}
 use Rattle.replicas.proofs.Reading.{mark_inside, mark_outside, word_outside, walk_steps}

@@ -1,15 +1,15 @@
 -- What packing's lists for a box answer, position by position.
-use Rattle.std.proofs.Common.{◌≡◌, ℕ, ◌<◌, ◌≤◌, true, false, cond, ltb, List, is_some, Some, None, Option, unwrap_or, sym, refl, ap, ◌∙◌, ap₂, ⊎_elim, arith}
+use Rattle.std.proofs.Common.{◌≡◌, ℕ, true, false, cond, ltb, List, is_some, Some, None, Option, unwrap_or, sym, refl, ap, ◌∙◌, ap₂, ⊎_elim}
 use Rattle.std.proofs.lemmas.Bool.{cases_Bool, cond-true, cond-false, ltb-true}
 use Rattle.runs.specs.declared.run.Run.{Run}
 use Rattle.runs.specs.Runs.{mark_at}
 use Rattle.runs.proofs.Laws.{spells_mark_at}
-use Rattle.cells.specs.Area.{Area, Inside, inside, size, place_in, row_at, column_at}
+use Rattle.cells.specs.Area.{Area, inside, size, place_in, row_at, column_at}
 use Rattle.cells.specs.Words.{Words, Bounds}
 use Rattle.cells.proofs.Places.{inside_true, true_inside, place_below, row_place, column_place, inside_at, place_at}
 use Rattle.sheet.specs.declared.xf.Xf.{Xf}
 use Rattle.sheet.specs.Packs.{spot, Packs}
-use Rattle.sheet.specs.Reads.{Seen, mark_there, styled, seen_at, walked_from}
+use Rattle.sheet.specs.Reads.{Seen, mark_there, styled, walked_from}
 use Rattle.replicas.specs.Promise.{step, In}
 use Rattle.replicas.proofs.Boxes.{rows_ordered, columns_ordered}
 

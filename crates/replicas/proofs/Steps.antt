@@ -1,30 +1,28 @@
 -- Each call takes a sheet that stands for a history to one that stands for the history with the call in front.
-use Rattle.std.proofs.Common.{◌≡◌, ℕ, ◌+◌, ◌<◌, ◌≤◌, min, Bool, true, false, cond, List, [], ◌∷◌, ◌++◌, reverse, length, get_or, take, is_ok, Some, None, vec_items, vec_len, MatchBool, Option, Result, sym, refl, ap, ◌∙◌, subst, ap₂, ⊎_elim, arith}
+use Rattle.std.proofs.Common.{◌≡◌, ℕ, ◌+◌, ◌<◌, ◌≤◌, min, Bool, true, false, List, [], ◌∷◌, ◌++◌, reverse, length, get_or, take, is_ok, Some, None, vec_items, vec_len, MatchBool, Option, Result, sym, refl, ap, ◌∙◌, subst, ap₂, ⊎_elim, arith}
 use mathlib.Core.Path.{fun_ext}
 use Rattle.std.specs.Option.{option_map}
 use Rattle.std.proofs.lemmas.List.{take_more, take_all, reverse-append}
 use Rattle.std.proofs.lemmas.Bool.{cases_Bool}
 use Rattle.runs.specs.declared.memory.RunMemory.{RunMemory}
-use Rattle.runs.specs.declared.run.Run.{Run}
 use Rattle.runs.specs.Memory.{runs_of}
-use Rattle.formats.specs.declared.CellFormat.{CellFormat}
-use Rattle.cells.specs.Area.{Area, extent}
+use Rattle.cells.specs.Area.{extent}
 use Rattle.cells.specs.Words.{Words, Bounds}
 use Rattle.sheet.specs.declared.xf.Xf.{Xf}
 use Rattle.sheet.specs.declared.memory.Sheet.{Sheet}
 use Rattle.sheet.specs.declared.memory.SheetMemory.{SheetMemory}
 use Rattle.sheet.specs.declared.answers.RunCounts.{RunCounts}
 use Rattle.sheet.specs.declared.answers.PackRefusal.{PackRefusal}
-use Rattle.sheet.specs.Contents.{words, kept, cell_room, run_room, room, held, area, id_runs, kind_runs, memory_cell_room, memory_run_room}
-use Rattle.sheet.specs.Edits.{Made, SameRuns, PutDone, ClearDone}
+use Rattle.sheet.specs.Contents.{words, kept, cell_room, room, held, area, id_runs, kind_runs, memory_cell_room, memory_run_room}
+use Rattle.sheet.specs.Edits.{Made, SameRuns}
 use Rattle.sheet.specs.Palette.{kind_at}
-use Rattle.sheet.specs.Packs.{Packs, PackOf, PackDone, Accepted, Holds, pack_answer}
+use Rattle.sheet.specs.Packs.{Packs, PackOf, PackDone, pack_answer}
 use Rattle.sheet.specs.Rules.{put_words, put_kept, clear_words, clear_kept}
 use Rattle.replicas.specs.declared.call.Call.{Call}
 use Rattle.replicas.specs.declared.call.Call.TheVariants as call
 use Rattle.replicas.specs.declared.call.Answer.{Answer}
 use Rattle.replicas.specs.declared.call.Answer.TheVariants as answer
-use Rattle.replicas.specs.History.{Kept, after, last_words, kept_after}
+use Rattle.replicas.specs.History.{after, last_words, kept_after}
 use Rattle.replicas.specs.Latest.{Latest, words_at}
 use Rattle.replicas.specs.Stands.{Applied, Stands}
 

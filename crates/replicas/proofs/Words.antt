@@ -1,9 +1,8 @@
 -- What is known of every last word: it is an id above 0 and below P. And the cells of a sheet count its words.
-use Rattle.std.proofs.Common.{◌≡◌, ℕ, ◌<◌, ◌≤◌, Bool, true, false, cond, not, ◌&&◌, ◌||◌, eqb, leb, List, [], ◌∷◌, map, length, get_or, Some, None, Option, sym, refl, ap, ◌∙◌, ⊎_elim, arith}
-use Rattle.std.proofs.lemmas.List.{get_or-map}
+use Rattle.std.proofs.Common.{◌≡◌, ℕ, ◌<◌, true, false, not, ◌&&◌, eqb, leb, List, [], ◌∷◌, length, get_or, Some, None, sym, ◌∙◌, ⊎_elim, arith}
 use Rattle.std.proofs.lemmas.Bool.{cases_Bool, cases_order, and_parts, or_parts, not-true, cond-true, cond-false, eqb-false, leb-false}
 use Rattle.cells.specs.declared.cell.Cell.{Cell}
-use Rattle.cells.specs.Words.{Words, number, Ordered, words_of}
+use Rattle.cells.specs.Words.{Ordered, words_of}
 use Rattle.cells.proofs.Order.{ordered_at}
 use Rattle.cells.proofs.Around.{word_cell, cell_word}
 use Rattle.sheet.specs.Rules.{on_sheet, ignored, room_for, keeps, clears}

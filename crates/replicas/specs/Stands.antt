@@ -1,6 +1,6 @@
 -- A sheet stands for a history of calls: it keeps the cells of the last words, and holds the box and the runs of the latest
 -- accepted pack.
-use Rattle.std.specs.Prelude.{◌≡◌, ℕ, List, length, Option, Result}
+use Rattle.std.specs.Prelude.{◌≡◌, ℕ, List, length, Option}
 use Rattle.sheet.specs.declared.xf.Xf.{Xf}
 use Rattle.sheet.specs.declared.memory.Sheet.{Sheet}
 use Rattle.sheet.specs.Contents.{words, kept, cell_room, run_room, area, id_runs, kind_runs}

@@ -1,15 +1,14 @@
 -- From what the passes over the cells find to what pack makes of the words.
-use Rattle.std.proofs.Common.{◌≡◌, ℕ, ◌<◌, ◌≤◌, min, Bool, true, false, List, [], map, length, get_or, take, is_some, Ok, Err, vec_items, vec_len, Decides, Result, unwrap_or, sym, refl, ap, ◌∙◌, subst, ap₂, arith}
+use Rattle.std.proofs.Common.{◌≡◌, ℕ, ◌<◌, ◌≤◌, min, List, [], map, length, get_or, take, is_some, Ok, Err, vec_items, vec_len, Result, unwrap_or, sym, ap, ◌∙◌, ap₂, arith}
 use Rattle.std.proofs.lemmas.Bool.{lt-ltb, le-ltb, cond-true, cond-false}
 use Rattle.runs.specs.declared.run.Run.{Run}
 use Rattle.runs.specs.Runs.{Packing}
 use Rattle.runs.specs.Marks.{mark_of}
-use Rattle.runs.specs.Memory.{Packed, overlay, runs_of}
+use Rattle.runs.specs.Memory.{Packed, runs_of}
 use Rattle.runs.specs.declared.memory.RunMemory.{RunMemory}
-use Rattle.runs.proofs.Laws.{packing_same, packing_exists, one_packing, front_runs}
+use Rattle.runs.proofs.Laws.{packing_same, packing_exists, front_runs}
 use Rattle.formats.specs.Kinds.{same_kind, same_kind_decides}
 use Rattle.formats.specs.declared.CellFormat.{CellFormat}
-use Rattle.formats.specs.declared.CellFormat.TheVariants.{Other, DateTime, TimeDelta}
 use Rattle.cells.specs.declared.cell.Cell.{Cell}
 use Rattle.cells.specs.Area.{Area, size, row_at, column_at}
 use Rattle.cells.specs.Words.{words_of, Least}

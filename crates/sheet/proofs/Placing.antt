@@ -1,5 +1,5 @@
 -- Cells of a box as packing reads them: they are in order, and the mark at each place is that of the word there.
-use Rattle.std.proofs.Common.{◌≡◌, ℕ, zero, suc, ◌+◌, ◌*◌, ◌<◌, ◌≤◌, Bool, true, false, cond, ◌&&◌, eqb, List, [], ◌∷◌, map, length, get_or, is_some, Some, None, unwrap_or, sym, refl, ap, ◌∙◌, ap₂, ⊎_elim, arith}
+use Rattle.std.proofs.Common.{◌≡◌, ℕ, suc, ◌+◌, ◌<◌, ◌≤◌, true, false, ◌&&◌, eqb, List, [], ◌∷◌, map, length, get_or, is_some, Some, None, unwrap_or, sym, refl, ap, ◌∙◌, ap₂, ⊎_elim, arith}
 use Rattle.std.specs.List.{slice_get}
 use Rattle.std.proofs.lemmas.Bool.{and_parts, and_from, eqb-true, eqb-false, eq-eqb, cases_Bool, cond-true, cond-false}
 use Rattle.std.proofs.lemmas.List.{length-map, get_or-map}
@@ -7,9 +7,9 @@ use Rattle.std.proofs.lemmas.Option.{slice_get-get_or}
 use Rattle.runs.specs.declared.marked.Placed.{Placed}
 use Rattle.runs.specs.Marks.{InOrder, mark_of}
 use Rattle.cells.specs.declared.cell.Cell.{Cell}
-use Rattle.cells.specs.Area.{Area, Inside, inside, extent, size, place_in, place_of, row_at, column_at}
-use Rattle.cells.specs.Words.{number, Ordered, words_of}
-use Rattle.cells.proofs.Order.{ordered_at, ordered_from}
+use Rattle.cells.specs.Area.{Area, Inside, inside, size, place_in, place_of, row_at, column_at}
+use Rattle.cells.specs.Words.{Ordered, words_of}
+use Rattle.cells.proofs.Order.{ordered_at}
 use Rattle.cells.proofs.Around.{cell_word}
 use Rattle.sheet.specs.Placing.{placed}
 use Rattle.cells.proofs.Places.{inside_true, true_inside, place_below, place_later, place_at, row_place, column_place}

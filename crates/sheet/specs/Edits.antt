@@ -1,5 +1,5 @@
 -- What making a sheet, put and clear do.
-use Rattle.std.specs.Prelude.{◌≡◌, ℕ, Bool, true, false, [], replicate, None, vec_items, Result}
+use Rattle.std.specs.Prelude.{◌≡◌, ℕ, Bool, false, [], replicate, None, vec_items, Result}
 use Rattle.formats.specs.declared.CellFormat.TheVariants.{Other}
 use Rattle.sheet.specs.declared.memory.Sheet.{Sheet}
 use Rattle.sheet.specs.declared.memory.SheetMemory.{SheetMemory}

@@ -1,6 +1,5 @@
 -- What get, kind and walk answer, by the box and the runs of the latest accepted pack.
-use Rattle.std.specs.Prelude.{◌≡◌, ℕ, ◌+◌, cond, List, Some, None, Option, nat_lt}
-use Rattle.std.specs.Option.{option_map}
+use Rattle.std.specs.Prelude.{ℕ, cond, List, Some, None, Option, nat_lt}
 use Rattle.runs.specs.declared.run.Run.{Run}
 use Rattle.runs.specs.Runs.{mark_at}
 use Rattle.formats.specs.declared.CellFormat.{CellFormat}

@@ -1,6 +1,6 @@
 -- The rules of put and clear. P is the palette's length, C the number of cells that there is room for, `words` the word of
 -- each position so far, and `kept` the number of positions that have one.
-use Rattle.std.specs.Prelude.{◌≡◌, ℕ, ◌+◌, ◌-◌, Bool, cond, not, ◌&&◌, ◌||◌, is_some, Some, None, Ok, Err, Result, ◌==◌, nat_le, nat_lt}
+use Rattle.std.specs.Prelude.{ℕ, ◌+◌, ◌-◌, Bool, cond, not, ◌&&◌, ◌||◌, is_some, Some, None, Ok, Err, Result, ◌==◌, nat_le, nat_lt}
 use Rattle.cells.specs.Words.{Words, reworded}
 use Rattle.sheet.specs.declared.answers.Put.{Put}
 use Rattle.sheet.specs.declared.answers.Put.TheVariants.{Kept, Ignored}

@@ -1,6 +1,6 @@
-use Rattle.std.proofs.Common.{◌≡◌, ◌<◌, true, false, length, drop, sym, ap, ◌∙◌, subst, arith}
+use Rattle.std.proofs.Common.{◌≡◌, length, drop, sym, ap, ◌∙◌, subst, arith}
 use Rattle.std.proofs.lemmas.Bool.Decides.{not_from_Decides}
-use Rattle.attrs.specs.Grammar.{First, Has, past}
+use Rattle.attrs.specs.Grammar.{Has}
 use Rattle.attrs.specs.Items.{attribute_of}
 use Rattle.attrs.specs.Seen.{Marked}
 use Rattle.attrs.proofs.Nexts.{read_item}

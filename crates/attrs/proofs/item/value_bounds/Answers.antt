@@ -1,6 +1,4 @@
-use Rattle.std.proofs.Common.{◌≡◌, ◌+◌, ◌<◌, ◌≤◌, true, length, get_or, drop, sym, refl, ◌∙◌, arith}
-use Rattle.attrs.specs.Bytes.{quote}
-use Rattle.attrs.specs.Grammar.{Apart}
+use Rattle.std.proofs.Common.{◌+◌, get_or, drop, sym, refl, ◌∙◌, arith}
 use Rattle.attrs.proofs.Reading.{unquoted_at_end, unquoted, unclosed, quoted, apart_at_end, apart_by_space, dark_there}
 use Rattle.attrs.proofs.item.value_bounds.Goals as goal
 use Rattle.attrs.proofs.item.value_bounds.Goals.{else-end-bytes-2-via-then-end-bytes-2+else-not-is_white, else-end-bytes-2-via-else-end-bytes-2}

@@ -1,7 +1,7 @@
-use Rattle.std.proofs.Common.{◌≡◌, ◌<◌, length, get_or, set, sym, ap, ◌∙◌, subst, mod-lt}
+use Rattle.std.proofs.Common.{◌<◌, length, get_or, set, sym, ap, ◌∙◌, subst, mod-lt}
 use lib.Bits.{bit_or}
 use Rattle.std.proofs.lemmas.Bool.Decides.{Decides-eqb}
-use Rattle.attrs.specs.Seen.{bits_of, word_of, Marked}
+use Rattle.attrs.specs.Seen.{word_of, Marked}
 use Rattle.attrs.proofs.Filter.{now_marked, still_marked}
 use Rattle.attrs.proofs.seen.note.Goals as goal
 

@@ -1,4 +1,4 @@
-use Rattle.std.proofs.Common.{◌≡◌, ◌^◌, Bool, Some, sym, ap, ◌∙◌}
+use Rattle.std.proofs.Common.{◌^◌, Bool, Some, sym, ap, ◌∙◌}
 use lib.Ieee.{Float, binary64, round, neg}
 use Rattle.std.specs.Option.{option_map}
 use Rattle.numbers.specs.Cuts.{begins, without}

@@ -1,4 +1,4 @@
-use Rattle.std.proofs.Common.{◌≡◌, Bool, true, List, sym, ap, ◌∙◌}
+use Rattle.std.proofs.Common.{Bool, true, sym, ap, ◌∙◌}
 use Rattle.std.proofs.lemmas.List.{take_rest}
 use Rattle.numbers.specs.Cuts.{without}
 use Rattle.numbers.specs.Decimals.{is_minus, magnitude}

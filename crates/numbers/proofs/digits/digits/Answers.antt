@@ -1,4 +1,4 @@
-use Rattle.std.proofs.Common.{◌≡◌, ℕ, ◌+◌, ◌^◌, List, length, drop, Some, sym, ap, ◌∙◌, arith}
+use Rattle.std.proofs.Common.{ℕ, ◌+◌, ◌^◌, List, length, drop, Some, sym, ap, ◌∙◌, arith}
 use Rattle.numbers.specs.Fronts.{front}
 use Rattle.std.proofs.lemmas.List.{take_rest}
 use Rattle.numbers.proofs.Fronts.{below_some, below_none, front_more, front_stops, front_over, front_at_end}

@@ -1,4 +1,4 @@
-use Rattle.std.proofs.Common.{[], ◌++◌, reverse, sym}
+use Rattle.std.proofs.Common.{[], ◌++◌, reverse}
 use Rattle.std.proofs.lemmas.List.{append-nil}
 use Rattle.sheet.specs.Contents.{memory_cell_room, memory_run_room}
 use Rattle.replicas.proofs.Steps.{made_stands}

@@ -1,9 +1,9 @@
-use Rattle.std.proofs.Common.{◌≡◌, ℕ, length, drop, sym, ap, ◌∙◌, subst, inl, inr, arith}
+use Rattle.std.proofs.Common.{◌≡◌, length, drop, sym, ap, ◌∙◌, subst, inl, inr, arith}
 use Rattle.std.proofs.lemmas.Slice.Eq.{slice_eq-Decides}
 use Rattle.std.proofs.lemmas.Bool.Decides.{not_from_Decides, Decides-eqb}
 use Rattle.attrs.specs.Items.{attribute_of}
 use Rattle.attrs.proofs.Nexts.{read_item, read_blank, read_fault}
-use Rattle.attrs.proofs.Finding.{Passed, passed_none, passed_more, found, not_found, found_among, none_among, first_inside}
+use Rattle.attrs.proofs.Finding.{Passed, passed_more, found, not_found, found_among, none_among, first_inside}
 use Rattle.attrs.proofs.attributes.Attributes.find.Goals as goal
 
 pub returns-in_default-first : goal.returns-in_default-first

@@ -1,7 +1,7 @@
-use Rattle.std.proofs.Common.{◌≡◌, ℕ, ◌+◌, ◌<◌, true, false, cond, ◌||◌, length, get_or, is_ok, vec_items, vec_len, vec_capacity, sym, refl, ap, ◌∙◌, arith}
+use Rattle.std.proofs.Common.{◌≡◌, ℕ, ◌<◌, true, false, vec_items, vec_len, vec_capacity, sym, refl, ap, ◌∙◌, arith}
 use Rattle.std.proofs.lemmas.Bool.{or_left, or_right, or_from, lt-ltb, le-ltb, cond-true, cond-false, true≢false, both_ways}
 use Rattle.cells.specs.declared.cell.Cell.{Cell}
-use Rattle.cells.specs.Words.{number, words_of}
+use Rattle.cells.specs.Words.{words_of}
 use Rattle.cells.specs.Kept.{stands_at, kept}
 use Rattle.cells.proofs.Order.{ordered_set, ordered_inserted}
 use Rattle.cells.proofs.Words.{stands_found, none_absent, words_inserted, words_set}

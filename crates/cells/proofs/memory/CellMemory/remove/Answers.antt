@@ -1,6 +1,5 @@
-use Rattle.std.proofs.Common.{◌≡◌, vec_items, sym, refl, ap, ◌∙◌, arith}
+use Rattle.std.proofs.Common.{vec_items, sym, refl, ap, ◌∙◌, arith}
 use Rattle.std.proofs.lemmas.Bool.{true≢false}
-use Rattle.cells.specs.declared.cell.Cell.{Cell}
 use Rattle.cells.specs.Words.{words_of}
 use Rattle.cells.proofs.Order.{ordered_removed}
 use Rattle.cells.proofs.Words.{stands_found, none_absent, words_removed}

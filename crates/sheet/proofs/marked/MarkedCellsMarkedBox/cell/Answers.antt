@@ -1,8 +1,7 @@
-use Rattle.std.proofs.Common.{◌≤◌, map, length, sym, ◌∙◌, arith}
+use Rattle.std.proofs.Common.{sym, arith}
 use Rattle.std.proofs.lemmas.List.{length-map}
 use Rattle.std.proofs.lemmas.Option.{slice_get_past}
 use Rattle.cells.specs.Area.{extent}
-use Rattle.sheet.specs.Placing.{placed}
 use Rattle.sheet.proofs.Placing.{nth_placed, place_there, held_from}
 use Rattle.sheet.proofs.marked.MarkedCellsMarkedBox.cell.Goals as goal
 

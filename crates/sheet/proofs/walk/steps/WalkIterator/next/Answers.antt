@@ -1,4 +1,4 @@
-use Rattle.std.proofs.Common.{◌≡◌, ℕ, ◌+◌, sym, ap, ◌∙◌, ap₂, arith, rules}
+use Rattle.std.proofs.Common.{◌≡◌, ◌+◌, sym, ap, ◌∙◌, ap₂, arith, rules}
 use Rattle.std.specs.Option.{option_map}
 use Rattle.runs.specs.Memory.{runs_of}
 use Rattle.runs.specs.Runs.{mark_at}
