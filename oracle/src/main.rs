@@ -1,7 +1,7 @@
 //! Compares `intake` with calamine's `StyleRange` on random sessions: the box, the runs of ids, get at
 //! every position of the box and around it, and the walk.
 //!
-//!     CALAMINE_SRC=FOLDER cargo run --release -- ../target/bin/intake 1000
+//!     CALAMINE_SRC=FOLDER cargo run --release --bin oracle -- ../crates/intake/out/intake 1000
 #[allow(dead_code)]
 mod style {
     include!(concat!(env!("OUT_DIR"), "/style.rs"));

@@ -2,8 +2,14 @@
 #![tactic(auto)]
 
 ghost use Rattle.examples.specs.Table.{Table};
+ghost use Rattle.examples.specs.Places.{Places};
 
 /// Every example of the table holds.
 pub fn hold()
     ensures { Table }
+{}
+
+/// That decimals with as many places as a workbook writes are read, and longer ones are not.
+pub fn hold_places()
+    ensures { Places }
 {}

@@ -1,5 +1,5 @@
 -- Reading a raw text character by character. A loop over the next character keeps `Reads raw done rest`: it begins with
--- `reads_none`, goes on with `reads_more`, and ends with `reads_all` or `reads-stuck`.
+-- `reads_none`, goes on with `reads_more`, and ends with `reads_all` or `reads_stuck`.
 use Rattle.std.proofs.Common.{◌≡◌, ℕ, ◌<◌, true, List, [], ◌∷◌, ◌++◌, length, Some, None, Ok, IsUtf8, Option, sym, refl, ap, ◌∙◌, subst, arith}
 use lib.Utf8.{scalars}
 use Rattle.std.proofs.lemmas.List.{append-nil}
