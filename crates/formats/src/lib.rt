@@ -1,8 +1,9 @@
 //! Date kinds: what a cell's number format makes of its number.
 #![tactic(auto)]
 
-ghost use Rattle.formats.specs.Kinds.{same_kind, same_kind_decides, kind_name};
-ghost use Rattle.std.specs.Prelude.{Some};
+ghost use Rattle.formats.specs.Kinds.{kind_name};
+ghost use Rattle.std.specs.Prelude.{Some, refl};
+ghost use Rattle.std.proofs.Common.{rules};
 
 use runs::Mark;
 use std::fmt;
@@ -17,13 +18,7 @@ pub enum CellFormat {
 
 /// Date kinds are marks.
 impl Mark for CellFormat {
-    ghost agrees = { same_kind };
-
-    ghost exact = { same_kind_decides };
-
-    fn same(&self, other: &CellFormat) -> bool {
-        *self == *other
-    }
+    ghost exact = { Prim.search rules };
 }
 
 impl fmt::Display for CellFormat {

@@ -2,3 +2,4 @@ pub mod Marks
 pub mod Runs
 pub mod Memory
 pub mod Written
+pub mod Going

@@ -1,5 +1,5 @@
 -- Memory that holds a list of runs: the marks and the ends, side by side, from the front on.
-use Rattle.std.specs.Prelude.{◌≡◌, ℕ, ◌<◌, List, [], ◌∷◌, map, length, slice_index}
+use Rattle.std.specs.Prelude.{◌≡◌, ℕ, ◌-◌, ◌<◌, List, [], ◌∷◌, map, length, slice_index}
 use Rattle.runs.specs.declared.run.Run.{Run}
 use Rattle.runs.specs.Runs.{Packing, Shortest}
 
@@ -15,6 +15,14 @@ runs_of [] es = []
 runs_of (m ∷ ms) [] = []
 runs_of (m ∷ ms) (e ∷ es) = record { mark = m; end = e } ∷ runs_of ms es
 
+-- the ends of runs
+abbrev pub ends_of : {M : Type 0} → List (Run M) → List ℕ
+ends_of runs = map (λ r. r.end) runs
+
+-- the end of the last run, which is the number of places that runs hold
+abbrev pub last_end : {M : Type 0} → List (Run M) → ℕ
+last_end runs = slice_index (ends_of runs) (length runs - 1)
+
 -- a later end is greater
 abbrev pub Rises : List ℕ → Type 0
 Rises es = (i j : ℕ) → i < j → j < length es → slice_index es i < slice_index es j
@@ -22,6 +30,12 @@ Rises es = (i j : ℕ) → i < j → j < length es → slice_index es i < slice_
 -- the first end is above 0, so the first run holds a position
 abbrev pub FirstAboveZero : List ℕ → Type 0
 FirstAboveZero es = 0 < length es → 0 < slice_index es 0
+
+-- Marks and ends of a table: there are as many of both, and the ends rise from above 0.
+pub record IsTable {M : Type 0} (marks : List M) (ends : List ℕ) : Type 0 where
+  pub level : length marks ≡ length ends
+  pub rising : Rises ends
+  pub first : FirstAboveZero ends
 
 -- What packing n positions leaves: its list is the one that spells them with no two neighbours alike, and the
 -- shortest; `needed` is its length; the memory has the list over its front, as far as it reaches, and is otherwise as it was.

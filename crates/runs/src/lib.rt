@@ -7,6 +7,7 @@ mod marked;
 mod memory;
 mod packing;
 mod run;
+mod runs;
 mod table;
 mod walk;
 
@@ -15,5 +16,6 @@ pub use marked::{MarkedBox, Placed};
 pub use memory::RunMemory;
 pub use packing::{needed, pack};
 pub use run::Run;
+pub use runs::Runs;
 pub use table::RunTable;
 pub use walk::RunWalk;

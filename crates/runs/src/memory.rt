@@ -44,8 +44,7 @@ impl<M: Mark> RunMemory<M> {
 
     /// The runs, for reading.
     pub fn table(&self) -> RunTable<'_, M>
-        ensures marks { result.marks.now ≡ take self.now.used self.now.marks.items }
-        ensures ends { result.ends.now ≡ take self.now.used self.now.ends.items }
+        ensures { result ≡ runs_of (take self.now.used self.now.marks.items) (take self.now.used self.now.ends.items) }
     {
         RunTable::over(&self.marks[0..self.used], &self.ends[0..self.used])
     }

@@ -36,7 +36,7 @@ fn extend<M: Mark>(tail: Tail<M>, marks: &mut [M], ends: &mut [u64], mark: M, up
     if upto == tail.end {
         return tail;
     }
-    let index = if tail.count > 0 && tail.mark.same(&mark) {
+    let index = if tail.count > 0 && tail.mark == mark {
         tail.count - 1
     } else {
         tail.count
@@ -63,9 +63,7 @@ pub fn pack<M: Mark, B: MarkedBox<M>>(area: &B, marks: &mut [M], ends: &mut [u64
         end: 0,
     };
     for index in 0..area.count() {
-        let Some(cell) = area.cell(index) else {
-            unreachable()
-        };
+        let cell = area.cell(index).unwrap();
         tail = extend(tail, marks, ends, gap, cell.place);
         tail = extend(tail, marks, ends, cell.mark, cell.place + 1);
     }

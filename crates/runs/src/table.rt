@@ -1,109 +1,82 @@
 //! A list of runs, lent for reading, with look-up by binary search.
-ghost use Rattle.std.specs.Prelude.{◌≡◌, ℕ, ◌<◌, ◌≤◌, length, Decides, slice_index};
+ghost use Rattle.std.specs.Prelude.{◌≡◌, ℕ, ◌<◌, ◌≤◌, List, length, map, Decides};
 ghost use Rattle.std.specs.List.{slice_get};
+ghost use Rattle.runs.specs.declared.run.Run.{Run};
 ghost use Rattle.runs.specs.Runs.{mark_at};
-ghost use Rattle.runs.specs.Memory.{Rises, FirstAboveZero, runs_of};
+ghost use Rattle.runs.specs.Going.{rest};
+ghost use Rattle.runs.specs.Memory.{Rises, FirstAboveZero, IsTable, runs_of, ends_of};
 
 use crate::mark::Mark;
 use crate::run::Run;
+use crate::runs::Runs;
+use std::marker::Model;
 
-/// Runs whose ends rise from above 0: a mark and an end each, in memory that is lent.
+/// Runs whose ends rise from above 0: a mark and an end each, in memory that is lent. Marks and ends lie
+/// apart, since a pack writes them over memory of two lengths.
 #[derive(Drop)]
 pub struct RunTable<'m, M> {
-    pub(crate) marks: &'m [M],
-    pub(crate) ends: &'m [u64],
-    ghost level: { length marks.now ≡ length ends.now },
-    ghost rising: { Rises ends.now },
-    ghost first: { FirstAboveZero ends.now },
+    marks: &'m [M],
+    ends: &'m [u64],
 }
 
-/// The index of the first end past the place, or how many ends there are where none is.
-fn run_index(ends: &[u64], place: u64) -> usize
-    requires { Rises ends.now }
-    ensures within { result ≤ length ends.now }
-    ensures before { (k : ℕ) → k < result → slice_index ends.now k ≤ place }
-    ensures past { result < length ends.now → place < slice_index ends.now result }
-{
-    let mut low = 0;
-    let mut high = ends.len();
-    while low < high {
-        let middle = low + (high - low) / 2;
-        if ends[middle] <= place {
-            low = middle + 1;
-        } else {
-            high = middle;
-        }
-    }
-    low
-}
+/// A clause sees the list of the runs.
+impl<'m, M> Model for RunTable<'m, M> {
+    ghost Value = { List (Run M) };
 
-/// Whether two runs, or their absences, are the same.
-fn same_run<M: Mark>(one: Option<Run<M>>, other: Option<Run<M>>) -> bool
-    ensures { Decides result (one ≡ other) }
-{
-    match (one, other) {
-        (Some(a), Some(b)) => a.end == b.end && a.mark.same(&b.mark),
-        (None, None) => true,
-        _ => false,
-    }
+    ghost view = { λ t. runs_of t.marks.now t.ends.now };
+
+    ghost invariant = { λ t. IsTable t.marks.now t.ends.now };
 }
 
 impl<'m, M: Mark> RunTable<'m, M> {
     /// The table over marks and ends that are as many, where the ends rise from above 0.
     pub(crate) fn over(marks: &'m [M], ends: &'m [u64]) -> Self
-        requires level { length marks.now ≡ length ends.now }
-        requires rising { Rises ends.now }
-        requires first { FirstAboveZero ends.now }
-        ensures marks { result.marks.now ≡ marks.now }
-        ensures ends { result.ends.now ≡ ends.now }
+        requires { IsTable marks.now ends.now }
+        ensures { result ≡ runs_of marks.now ends.now }
     {
         RunTable { marks, ends }
     }
 
-    /// How many runs there are.
+    /// How many runs there are. Their ends rise from above 0.
     pub fn count(&self) -> usize
-        ensures { result ≡ length (runs_of self.now.marks.now self.now.ends.now) }
+        ensures value { result ≡ length self.now }
+        ensures rising { Rises (ends_of self.now) }
+        ensures first { FirstAboveZero (ends_of self.now) }
     {
         self.ends.len()
     }
 
     /// The mark of the run that holds a place, or none past the last run.
     pub fn look_up(&self, place: u64) -> Option<M>
-        ensures { result ≡ mark_at (runs_of self.now.marks.now self.now.ends.now) place }
+        ensures { result ≡ mark_at self.now place }
     {
-        let index = run_index(self.ends, place);
-        if index < self.marks.len() {
-            Some(self.marks[index])
-        } else {
-            None
-        }
+        let index = self.ends.partition_point(|end| *end <= place);
+        self.run(index).map(|run| run.mark)
     }
 
     /// The run of an index, or none past the last.
     pub fn run(&self, index: usize) -> Option<Run<M>>
-        ensures { result ≡ slice_get (runs_of self.now.marks.now self.now.ends.now) index }
+        ensures { result ≡ slice_get self.now index }
     {
-        if index >= self.ends.len() {
-            return None;
+        let mark = *self.marks.get(index)?;
+        let end = self.ends[index];
+        Some(Run { mark, end })
+    }
+
+    /// The runs, in order.
+    pub fn iter(&self) -> Runs<'m, M>
+        ensures { rest result ≡ self.now }
+    {
+        Runs {
+            marks: self.marks.iter(),
+            ends: self.ends.iter(),
         }
-        Some(Run {
-            mark: self.marks[index],
-            end: self.ends[index],
-        })
     }
 
     /// Whether two tables hold the same runs.
     pub fn same(&self, other: &RunTable<'_, M>) -> bool
-        ensures { Decides result (runs_of self.now.marks.now self.now.ends.now ≡ runs_of other.now.marks.now other.now.ends.now) }
+        ensures { Decides result (self.now ≡ other.now) }
     {
-        if self.count() != other.count() {
-            return false;
-        }
-        for index in 0..self.count() {
-            if !same_run(self.run(index), other.run(index)) {
-                return false;
-            }
-        }
-        true
+        self.marks == other.marks && self.ends == other.ends
     }
 }

@@ -1,7 +1,8 @@
 //! A walk over the marks of all places in turn, in constant time a step.
-ghost use Rattle.std.specs.Prelude.{◌≡◌, ℕ, ◌+◌, ◌<◌, ◌≤◌, length, is_some, if◌then◌else◌, slice_index};
+ghost use Rattle.std.specs.Prelude.{◌≡◌, ℕ, ◌^◌, ◌+◌, ◌-◌, ◌<◌, ◌≤◌, length, is_some, if◌then◌else◌, slice_index};
+ghost use Rattle.std.specs.Iterator.{at_most};
 ghost use Rattle.runs.specs.Runs.{mark_at};
-ghost use Rattle.runs.specs.Memory.{runs_of};
+ghost use Rattle.runs.specs.Memory.{Rises, ends_of, last_end};
 
 use crate::mark::Mark;
 use crate::table::RunTable;
@@ -12,38 +13,46 @@ pub struct RunWalk<'m, M> {
     table: RunTable<'m, M>,
     run: usize,
     place: u64,
-    ghost before: { (k : ℕ) → k < run → slice_index table.ends.now k ≤ place },
-    ghost within: { run < length table.ends.now → place < slice_index table.ends.now run },
+    ghost few: { length table < 2 ^ 64 },
+    ghost rising: { Rises (ends_of table) },
+    ghost before: { (k : ℕ) → k < run → slice_index (ends_of table) k ≤ place },
+    ghost within: { run < length table → place < slice_index (ends_of table) run },
 }
 
 impl<'m, M: Mark> RunWalk<'m, M> {
     /// A walk from the first place on.
     pub fn new(table: RunTable<'m, M>) -> Self
-        ensures table { result.table ≡ table.exit }
+        ensures table { result.table ≡ table.entry }
         ensures place { result.place ≡ 0 }
     {
+        // its clauses say that the ends rise from above 0
+        let _ = table.count();
         RunWalk {
             table,
             run: 0,
             place: 0,
         }
     }
+}
 
-    /// The mark of the next place, or none past the last run.
-    pub fn next(&mut self) -> Option<M>
-        ensures value { result ≡ mark_at (runs_of self.old.table.marks.now self.old.table.ends.now) self.old.place }
-        ensures place { self.new.place ≡ (if is_some result then self.old.place + 1 else self.old.place) }
-        ensures table { self.new.table ≡ self.old.table }
-    {
-        let run = self.run;
-        if run >= self.table.ends.len() {
-            return None;
-        }
-        let mark = self.table.marks[run];
-        let end = self.table.ends[run];
+/// A step gives the mark of the next place, or none past the last run, and leaves the table.
+impl<'m, M: Mark> Iterator for RunWalk<'m, M> {
+    type Item = M;
+
+    ghost next_gives = { λ w r w'. (r ≡ mark_at w.table w.place) × (w'.place ≡ (if is_some r then w.place + 1 else w.place)) × (w'.table ≡ w.table) };
+
+    ghost remaining = { λ w. at_most (last_end w.table - w.place) };
+
+    fn next(&mut self) -> Option<M> {
+        let run = self.table.run(self.run)?;
         let place = self.place + 1;
-        self.run = if end <= place { run + 1 } else { run };
+        let next = if run.end <= place {
+            self.run + 1
+        } else {
+            self.run
+        };
+        self.run = next;
         self.place = place;
-        Some(mark)
+        Some(run.mark)
     }
 }

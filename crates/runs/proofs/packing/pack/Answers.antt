@@ -1,6 +1,8 @@
+use Rattle.std.proofs.lemmas.Grind.{common_steps}
+use Rattle.std.proofs.lemmas.Option.{gets}
 use Rattle.std.proofs.Common.{◌+◌, drop, sym, ◌∙◌, subst, arith}
 use Rattle.runs.specs.Marks.{mark_of}
-use Rattle.runs.proofs.Cells.{Left, nth_within, left_all, left_next, left_none, left_gap, left_mark, left_rest}
+use Rattle.runs.proofs.Cells.{Left, left_all, left_next, left_none, left_gap, left_mark, left_rest}
 use Rattle.runs.proofs.Steps.{Marked, written_none, written_all}
 use Rattle.runs.proofs.packing.pack.Goals as goal
 
@@ -16,17 +18,16 @@ loop-index-init g c =
     )
 
 -- an index below the count has a cell
-pub unreachable-requires : goal.unreachable-requires
-unreachable-requires g c =
-    nth_within (g.B.MarkedBox.cells c.args.area.now) c.loop-index.index (omega arith) c.in_default.ensures
+pub unwrap-cell-requires : goal.unwrap-cell-requires
+unwrap-cell-requires g c = grind (arith, common_steps, gets)
 
 pub extend-tail-requires : goal.extend-tail-requires
 extend-tail-requires g c =
-    let left = left_next c.loop-index.index c.loop-index.invariant.1 c.in-Some.cell c.in-Some.ensures in
+    let left = left_next c.loop-index.index c.loop-index.invariant.1 c.unwrap-cell.result (sym c.unwrap-cell.ensures ∙ c.cell.ensures) in
     record { counted = c.loop-index.invariant.0; forward = left.order.0 }
 
 pub overflow_add-cell : goal.overflow_add-cell
-overflow_add-cell g c = omega (arith, (left_next c.loop-index.index c.loop-index.invariant.1 c.in-Some.cell c.in-Some.ensures).order.1)
+overflow_add-cell g c = omega (arith, (left_next c.loop-index.index c.loop-index.invariant.1 c.unwrap-cell.result (sym c.unwrap-cell.ensures ∙ c.cell.ensures)).order.1)
 
 -- the positions before the cell have the gap mark, and its own position has its mark
 pub loop-index-preserved : goal.loop-index-preserved
@@ -36,8 +37,8 @@ loop-index-preserved g c =
     let gap = box.gap area in
     let cells = box.cells area in
     let spot = mark_of gap cells in
-    let cell = c.in-Some.cell in
-    let left = left_next c.loop-index.index c.loop-index.invariant.1 cell c.in-Some.ensures in
+    let cell = c.unwrap-cell.result in
+    let left = left_next c.loop-index.index c.loop-index.invariant.1 cell (sym c.unwrap-cell.ensures ∙ c.cell.ensures) in
     let before = c.extend-tail.ensures in
     let after = c.extend-tail-in-loop-index.ensures in
     let before_cell : Marked spot c.loop-index.tail.end cell.place c.gap_mark-gap.result =

@@ -1,16 +1,16 @@
-use Rattle.std.proofs.Common.{sym, arith}
-use Rattle.runs.proofs.Places.{mark_at_held, mark_at_none}
+use Rattle.std.proofs.Common.{leb, rules, sym, ap, ◌∙◌, subst}
+use Rattle.std.specs.Option.{option_map}
+use Rattle.std.proofs.lemmas.List.Sorted.{IsPartitionPoint-from_clause}
+use Rattle.runs.proofs.Places.{Holds, mark_at_held, rises_parted, holds_parted}
 use Rattle.runs.proofs.table.RunTable.look_up.Goals as goal
 
-pub returns-then-index-self : goal.returns-then-index-self
-returns-then-index-self g c =
-    let table = c.args.self.now in
-    let found = c.run_index-index.ensures in
-    let level = table.level in
-    sym (mark_at_held table.marks.now table.ends.now c.run_index-index.result c.args.place c.index-self-index.result level (found.before, found.past) (omega arith))
-
-pub returns-else-index-self : goal.returns-else-index-self
-returns-else-index-self g c =
-    let table = c.args.self.now in
-    let level = table.level in
-    sym (mark_at_none table.marks.now table.ends.now c.args.place (λ k within. c.run_index-index.ensures.before k (omega arith)))
+-- the partition point is the index of the run that holds the place
+pub returns : goal.returns
+returns g c =
+    let marks = c.self.inside.marks.now in
+    let ends = c.self.inside.ends.now in
+    let place = c.args.place in
+    let index = c.partition_point-index.result in
+    let parted = IsPartitionPoint-from_clause (λ end. leb end place) ends index c.partition_point-index.ensures.partitioned (rises_parted ends place c.self.invariant.rising) (λ a r f' k. search rules) in
+    let held : Holds c.args.self.now index place = subst (λ runs. Holds runs index place) c.self.view_is (holds_parted marks ends index place c.self.invariant.level parted) in
+    search rules ∙ ap (option_map (λ r. r.mark)) c.run.ensures ∙ sym (mark_at_held c.args.self.now index place held)
