@@ -1,22 +1,11 @@
 -- The marked cells of a box, taken one after another.
-use Rattle.std.proofs.Common.{◌≡◌, ℕ, zero, suc, ◌+◌, ◌<◌, ◌≤◌, eqb, List, [], ◌∷◌, length, drop, Some, None, refl, ap, ◌∙◌, subst, arith}
+use Rattle.std.proofs.Common.{◌≡◌, ℕ, sym, ◌+◌, ◌<◌, ◌≤◌, eqb, List, [], ◌∷◌, length, drop, Some, refl, ap, ◌∙◌, subst, arith}
 use Rattle.std.specs.List.{slice_get}
 use Rattle.std.proofs.lemmas.Bool.{eq-eqb, ne_eqb, cond-true, cond-false}
-use Rattle.std.proofs.lemmas.List.{drop_all}
+use Rattle.std.proofs.lemmas.List.{drop_all, drop_more}
+use Rattle.std.proofs.lemmas.Option.{slice_get_within, get_or_from_slice_get}
 use Rattle.runs.specs.declared.marked.Placed.{Placed}
 use Rattle.runs.specs.Marks.{InOrder, mark_of}
-
--- the cell of an index is the first of those from it on
-drop_nth : {X : Type 0} (xs : List X) (i : ℕ) (x : X) → Some x ≡ slice_get xs i → drop i xs ≡ x ∷ drop (suc i) xs
-drop_nth [] i x is = absurd (let no : ◌≡◌ {A = ℕ} 0 1 = cc in omega arith)
-drop_nth (y ∷ ys) zero x is = ap (λ z. z ∷ ys) (cc)
-drop_nth (y ∷ ys) (suc i) x is = drop_nth ys i x is
-
--- an index below the length has a cell
-pub nth_within : {X : Type 0} (xs : List X) (i : ℕ) → i < length xs → None ≡ slice_get xs i → ⊥
-nth_within [] i within is = omega arith
-nth_within (x ∷ xs) zero within is = let no : ◌≡◌ {A = ℕ} 0 1 = cc in omega arith
-nth_within (x ∷ xs) (suc i) within is = nth_within xs i (omega arith) is
 
 -- before the first cell every position has the gap mark
 pub gap_before : {M : Type 0} (gap : M) (cells : List (Placed M)) (from n p : ℕ) → InOrder from cells n → p < from → mark_of gap cells p ≡ gap
@@ -37,8 +26,9 @@ left_all gap all n order = record { order = order; marks = λ p from_p. refl }
 -- the cell of an index is the first of those from it on, and past the last cell none is left
 pub left_next : {M : Type 0} {gap : M} {all : List (Placed M)} {from n : ℕ} (index : ℕ) → Left gap all (drop index all) from n → (cell : Placed M) → Some cell ≡ slice_get all index → Left gap all (cell ∷ drop (index + 1) all) from n
 left_next {gap = gap} {all = all} {from = from} {n = n} index left cell is =
-    let next : suc index ≡ index + 1 = omega arith in
-    subst (λ l. Left gap all l from n) (drop_nth all index cell is ∙ ap (λ k. cell ∷ drop k all) next) left
+    let first = get_or_from_slice_get all index cell cell (sym is) in
+    let within = slice_get_within all index cell (sym is) in
+    subst (λ l. Left gap all l from n) (drop_more all index cell within ∙ ap (λ x. x ∷ drop (index + 1) all) first) left
 
 pub left_none : {M : Type 0} {gap : M} {all : List (Placed M)} {index from n : ℕ} → Left gap all (drop index all) from n → length all ≤ index → Left gap all [] from n
 left_none {gap = gap} {all = all} {index = index} {from = from} {n = n} left past = subst (λ l. Left gap all l from n) (drop_all index all past) left

@@ -9,7 +9,8 @@ use crate::packing::pack;
 use crate::table::RunTable;
 
 /// Marks and ends side by side, of which the first `used` are a list of runs. The entries past them
-/// are whatever the maker put there.
+/// are whatever the maker put there, and stay: so there is a count beside the two lists, whose lengths
+/// may differ.
 #[derive(Drop)]
 pub struct RunMemory<M> {
     marks: Vec<M>,

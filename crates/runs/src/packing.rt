@@ -7,7 +7,8 @@ ghost use Rattle.runs.specs.Written.{Written};
 use crate::mark::Mark;
 use crate::marked::MarkedBox;
 
-/// The runs so far: how many there are, and the mark and the end of the last.
+/// The runs so far: how many there are, and the mark and the end of the last. While there are none the
+/// mark is any; an `Option` of the last run would need the end 0 of no run as a case in every clause.
 #[derive(Clone, Copy)]
 struct Tail<M> {
     count: usize,
@@ -15,7 +16,8 @@ struct Tail<M> {
     end: u64,
 }
 
-/// Writes at an index that the memory has, and nothing past its end.
+/// Writes at an index that the memory has, and nothing past its end. By index: after `get_mut` of a
+/// slice a proof knows nothing of the other elements.
 fn put_at<T: Copy>(memory: &mut [T], index: usize, value: T)
     ensures { memory.new ≡ slice_set memory.old index value }
 {
@@ -62,6 +64,7 @@ pub fn pack<M: Mark, B: MarkedBox<M>>(area: &B, marks: &mut [M], ends: &mut [u64
         mark: gap,
         end: 0,
     };
+    // by index: no method of a trait can lend an iterator over its box
     for index in 0..area.count() {
         let cell = area.cell(index).unwrap();
         tail = extend(tail, marks, ends, gap, cell.place);

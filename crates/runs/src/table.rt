@@ -73,7 +73,8 @@ impl<'m, M: Mark> RunTable<'m, M> {
         }
     }
 
-    /// Whether two tables hold the same runs.
+    /// Whether two tables hold the same runs. A `==` would say less: over any kind of mark it does not
+    /// promise that equal tables are one.
     pub fn same(&self, other: &RunTable<'_, M>) -> bool
         ensures { Decides result (self.now ≡ other.now) }
     {
