@@ -1,13 +1,12 @@
 -- From what the passes over the cells find to what pack makes of the words.
-use Rattle.std.proofs.Common.{◌≡◌, ℕ, ◌<◌, ◌≤◌, min, List, [], map, length, get_or, take, is_some, Ok, Err, vec_items, vec_len, Result, unwrap_or, sym, ap, ◌∙◌, ap₂, arith}
+use Rattle.std.proofs.Common.{◌≡◌, ℕ, ◌<◌, ◌≤◌, min, List, [], map, length, get_or, take, is_some, Some, Ok, Err, vec_items, vec_len, Result, unwrap_or, sym, ap, ◌∙◌, ap₂, arith}
 use Rattle.std.proofs.lemmas.Bool.{lt-ltb, le-ltb, cond-true, cond-false}
 use Rattle.runs.specs.declared.run.Run.{Run}
 use Rattle.runs.specs.Runs.{Packing}
 use Rattle.runs.specs.Marks.{mark_of}
 use Rattle.runs.specs.Memory.{Packed, runs_of}
 use Rattle.runs.specs.declared.memory.RunMemory.{RunMemory}
-use Rattle.runs.proofs.Laws.{packing_same, packing_exists, front_runs}
-use Rattle.formats.specs.Kinds.{same_kind, same_kind_decides}
+use Rattle.runs.proofs.Laws.{packing_same, front_runs}
 use Rattle.formats.specs.declared.CellFormat.{CellFormat}
 use Rattle.cells.specs.declared.cell.Cell.{Cell}
 use Rattle.cells.specs.Area.{Area, size, row_at, column_at}
@@ -18,7 +17,9 @@ use Rattle.sheet.specs.declared.answers.PackRefusal.{PackRefusal}
 use Rattle.sheet.specs.declared.answers.PackRefusal.TheVariants.{IdRuns, KindRuns}
 use Rattle.sheet.specs.Contents.{room}
 use Rattle.sheet.specs.Placing.{placed}
-use Rattle.sheet.specs.Packs.{spot, pack_answer, Holds}
+use Rattle.sheet.specs.declared.xf.Xf.{Xf}
+use Rattle.sheet.specs.Palette.{kind_at}
+use Rattle.sheet.specs.Packs.{spot, pack_answer, Holds, PackOf}
 use Rattle.sheet.proofs.Placing.{Held, mark_of_word}
 
 -- the least box around the words of a list holds its cells
@@ -64,9 +65,19 @@ holds_packed spot n needed m m' p used_by marks_len ends_len fits =
     used_is : m'.used ≡ length p.runs
     used_is = omega arith
 
--- date kinds can be compared, so that packing's list exists
-pub kinds_exist : (spot : ℕ → CellFormat) (n : ℕ) → (runs : List (Run CellFormat)) × Packing spot n runs
-kinds_exist = packing_exists same_kind same_kind_decides
+-- what pack makes of the words of a list whose least box is `a`, with packing's lists of the marks of its cells
+abbrev pub made_of : {S : Type 0} (palette : List (Xf S)) (a : Area) (xs ys : List Cell) (ids : List (Run ℕ)) (kinds : List (Run CellFormat)) → xs ≡ ys → Least (words_of ys) a
+    → Packing (mark_of 0 (map (placed a (λ id. id)) xs)) (size a) ids → Packing (mark_of (kind_at palette 0) (map (placed a (kind_at palette)) xs)) (size a) kinds → PackOf palette (words_of ys)
+made_of palette a xs ys ids kinds same least ids_packed kinds_packed =
+    let held = least_held a xs ys same least in
+    record {
+      box = Some a;
+      bounds = least;
+      ids = ids;
+      ids_packed = packed_words a (λ id. id) xs ys ids same held ids_packed;
+      kinds = kinds;
+      kinds_packed = packed_words a (kind_at palette) xs ys kinds same held kinds_packed;
+    }
 
 -- a memory whose runs are forgotten holds none
 pub holds_none : {M : Type 0} (m m' : RunMemory M) → m'.marks ≡ m.marks → m'.ends ≡ m.ends → m'.used ≡ 0 → Holds [] m m'

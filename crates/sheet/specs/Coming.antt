@@ -1,7 +1,6 @@
 -- The positions that are still to come in a walk.
 use Rattle.std.specs.Prelude.{◌≡◌, ℕ, ◌+◌, Option}
 use Rattle.std.specs.Option.{option_map}
-use Rattle.runs.specs.Memory.{runs_of}
 use Rattle.cells.specs.Area.{extent}
 use Rattle.cells.specs.Going.{place}
 use Rattle.sheet.specs.declared.walk.Walk.{Walk}
@@ -11,7 +10,7 @@ use Rattle.sheet.specs.Reads.{Seen, seen_at}
 -- the position that comes after k others
 abbrev pub coming : {S : Type 0} → Walk S → ℕ → Option (Seen S)
 coming w k =
-    seen_at w.palette.now (extent w.positions.area) (runs_of w.ids.table.marks.now w.ids.table.ends.now) (place w.positions + k)
+    seen_at w.palette.now (extent w.positions.area) w.ids.table (place w.positions + k)
 
 -- what is given, with the style that it refers to
 abbrev pub seen : {S : Type 0} → Styled S → Seen S

@@ -1,6 +1,5 @@
 //! A walk over the positions of a packed sheet, row by row.
 ghost use Rattle.std.specs.Prelude.{◌≡◌, ◌<◌, ◌≤◌, true, is_some};
-ghost use Rattle.runs.specs.Memory.{runs_of};
 ghost use Rattle.runs.specs.Runs.{mark_at};
 ghost use Rattle.cells.specs.Area.{extent, size};
 ghost use Rattle.cells.specs.Going.{place};
@@ -27,5 +26,5 @@ pub struct Walk<'s, 'p, S> {
     pub(crate) positions: Positions,
     pub(crate) ids: RunWalk<'s, u32>,
     ghost behind: { place positions < size (extent positions.area) → ids.place ≤ place positions },
-    ghost level: { place positions < size (extent positions.area) → is_some (mark_at (runs_of ids.table.marks.now ids.table.ends.now) ids.place) ≡ true → ids.place ≡ place positions },
+    ghost level: { place positions < size (extent positions.area) → is_some (mark_at ids.table ids.place) ≡ true → ids.place ≡ place positions },
 }

@@ -32,20 +32,21 @@ impl Sheet {
             marking: Kinds { palette },
         };
         let room = self.ids.room().min(self.kinds.room());
-        let id_runs = needed::<u32, _>(&ids);
-        if id_runs > room {
-            return Err(PackRefusal::IdRuns { needed: id_runs });
+        let counts = RunCounts {
+            ids: needed::<u32, _>(&ids),
+            kinds: needed::<CellFormat, _>(&kinds),
+        };
+        if counts.ids > room {
+            return Err(PackRefusal::IdRuns { needed: counts.ids });
         }
-        let kind_runs = needed::<CellFormat, _>(&kinds);
-        if kind_runs > room {
-            return Err(PackRefusal::KindRuns { needed: kind_runs });
+        if counts.kinds > room {
+            return Err(PackRefusal::KindRuns {
+                needed: counts.kinds,
+            });
         }
         self.ids.write(&ids);
         self.kinds.write(&kinds);
         self.area = Some(area);
-        Ok(RunCounts {
-            ids: id_runs,
-            kinds: kind_runs,
-        })
+        Ok(counts)
     }
 }

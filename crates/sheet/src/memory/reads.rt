@@ -1,7 +1,6 @@
 //! Reading what the latest accepted pack wrote.
 ghost use Rattle.std.specs.Prelude.{◌≡◌, ℕ};
 ghost use Rattle.std.specs.Option.{option_map};
-ghost use Rattle.runs.specs.Memory.{runs_of};
 ghost use Rattle.cells.specs.Area.{extent};
 ghost use Rattle.sheet.specs.Contents.{held, id_runs, kind_runs};
 ghost use Rattle.sheet.specs.Reads.{mark_there, got, kind_there, walked};
@@ -68,14 +67,14 @@ impl Sheet {
 
     /// The runs of style ids.
     pub fn id_runs(&self) -> RunTable<'_, u32>
-        ensures { runs_of result.marks.now result.ends.now ≡ id_runs self.now }
+        ensures { result ≡ id_runs self.now }
     {
         self.ids.table()
     }
 
     /// The runs of date kinds.
     pub fn kind_runs(&self) -> RunTable<'_, CellFormat>
-        ensures { runs_of result.marks.now result.ends.now ≡ kind_runs self.now }
+        ensures { result ≡ kind_runs self.now }
     {
         self.kinds.table()
     }
