@@ -1,6 +1,6 @@
 -- Cells in order, read place by place.
 use Rattle.std.proofs.Common.{◌≡◌, ℕ, ◌+◌, ◌-◌, ◌<◌, ◌≤◌, List, length, get_or, set, sym, ap, ◌∙◌, ⊎_elim, arith}
-use Rattle.std.proofs.lemmas.List.{get_or-map, get_or_default, map-set, set-get_or, length-set}
+use Rattle.std.proofs.lemmas.List.{get_or-map, map-set, set-get_or, length-set}
 use Rattle.std.proofs.lemmas.Bool.{cases_lt, cases_order}
 use Rattle.cells.specs.declared.cell.Cell.{Cell}
 use Rattle.cells.specs.Words.{number, numbers, Ordered}
@@ -19,28 +19,6 @@ pub ordered_from : (cells : List Cell) (d : Cell) → ((i j : ℕ) → i < j →
 ordered_from cells d f i j h k =
     let below : i < length cells = omega arith in
     omega (arith, number_at cells i d below, number_at cells j d k, f i j h k)
-
--- up to a cell that comes before a position, all do
-pub all_before : (cells : List Cell) → Ordered cells → (m w : ℕ) (e : Cell) → m < length cells → number (get_or cells m e).at < w → (k : ℕ) (d : Cell) → k ≤ m → number (get_or cells k d).at < w
-all_before cells o m w e within h k d le =
-    ⊎_elim
-    (λ (less : k < m). let l = ordered_at cells o k m d less within in omega (arith, here, l))
-    (λ (more : m ≤ k). let same : k ≡ m = omega arith in omega (arith, here, ap (λ i. number (get_or cells i d).at) same))
-    (cases_lt k m)
-  where
-    here : number (get_or cells m d).at < w
-    here = omega (arith, ap (λ (x : Cell). number x.at) (get_or_default cells m d e within))
-
--- from a cell on that does not come before a position, none does
-pub none_from : (cells : List Cell) → Ordered cells → (m w : ℕ) (e : Cell) → m < length cells → w ≤ number (get_or cells m e).at → (k : ℕ) (d : Cell) → m ≤ k → k < length cells → w ≤ number (get_or cells k d).at
-none_from cells o m w e within h k d le below =
-    ⊎_elim
-    (λ (less : m < k). let l = ordered_at cells o m k d less below in omega (arith, here, l))
-    (λ (more : k ≤ m). let same : m ≡ k = omega arith in omega (arith, here, ap (λ i. number (get_or cells i d).at) same))
-    (cases_lt m k)
-  where
-    here : w ≤ number (get_or cells m d).at
-    here = omega (arith, ap (λ (x : Cell). number x.at) (get_or_default cells m d e within))
 
 -- another cell in the place of one at the same position
 pub ordered_set : (cells : List Cell) (i : ℕ) (x d : Cell) → i < length cells → number (get_or cells i d).at ≡ number x.at → Ordered cells → Ordered (set cells i x)
@@ -101,16 +79,3 @@ module _ (xs ys : List Cell) (i : ℕ) (o : Ordered xs) where
           (cases_lt k i))
           (λ (j_after : i ≤ j). let m = ordered_at xs o (j + 1) (k + 1) d (omega arith) (omega arith) in omega (arith, at_after j j_after, at_after k (omega arith), m))
           (cases_lt j i)
-
--- Where no cell stands at a number, and those from an index on do not come before it, they come after it.
-pub past_all : (cells : List Cell) → Ordered cells → (i w : ℕ) → ((k : ℕ) (d : Cell) → i ≤ k → k < length cells → w ≤ number (get_or cells k d).at) → (i < length cells → (d : Cell) → number (get_or cells i d).at ≡ w → ⊥) → (k : ℕ) (d : Cell) → i ≤ k → k < length cells → w < number (get_or cells k d).at
-past_all cells o i w from apart k d le below =
-    let first : i < length cells = omega arith in
-    let at_first : w ≤ number (get_or cells i d).at = from i d (omega arith) first in
-    ⊎_elim
-    (λ (less : w < number (get_or cells i d).at). ⊎_elim
-    (λ (later : i < k). let m = ordered_at cells o i k d later below in omega arith)
-    (λ (same : k ≤ i). let e : i ≡ k = omega arith in omega (arith, ap (λ j. number (get_or cells j d).at) e))
-    (cases_lt i k))
-    (λ (more : number (get_or cells i d).at ≤ w). absurd (apart first d (omega arith)))
-    (cases_lt w (number (get_or cells i d).at))

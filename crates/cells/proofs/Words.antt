@@ -1,11 +1,17 @@
--- What a cell that is put in, replaced or taken out does to the words that a list of cells stands for.
+-- The words that a list of cells stands for, and what a cell that is put in, replaced or taken out does to them.
 use Rattle.std.proofs.Common.{◌≡◌, ℕ, zero, suc, ◌<◌, ◌≤◌, Bool, true, false, cond, ◌&&◌, eqb, List, [], ◌∷◌, length, get_or, set, is_some, Some, None, Option, sym, refl, ap, ◌∙◌, ⊎_elim, arith}
 use Rattle.std.specs.List.{insert, remove}
-use Rattle.std.proofs.lemmas.Bool.{and_parts, and_from, eqb-true, eq-eqb, cases_Bool, cond-true, cond-false, cases_lt}
+use Rattle.std.proofs.lemmas.Bool.{and_parts, and_from, eqb-true, eq-eqb, cases_Bool, cond-true, cond-false, cases_lt, true≢false}
 use Rattle.cells.specs.declared.cell.Cell.{Cell}
 use Rattle.cells.specs.declared.position.Position.{Position}
 use Rattle.cells.specs.Words.{number, words_of, reworded}
 use Rattle.cells.specs.Located.{Free, Found, Absent}
+
+abbrev row : Cell → ℕ
+row x = x.at.row
+
+abbrev column : Cell → ℕ
+column x = x.at.column
 
 -- whether a position is that of a row and a column
 abbrev here : Position → ℕ → ℕ → Bool
@@ -106,3 +112,27 @@ absent_free xs p i a k d h e = ⊎_elim (λ (l : k < i). let b = a.before k d l 
 
 pub none_absent : (xs : List Cell) (p : Position) (i : ℕ) → Absent xs p i → is_some (words_of xs p.row p.column) ≡ false
 none_absent xs p i a = ap is_some (words_missing xs p (absent_free xs p i a))
+
+-- a word belongs to a cell
+pub word_cell : (cells : List Cell) (r c : ℕ) → is_some (words_of cells r c) ≡ true → (k : ℕ) × (k < length cells) × ((d : Cell) → (row (get_or cells k d) ≡ r) × (column (get_or cells k d) ≡ c))
+word_cell [] r c e = absurd (true≢false (sym e))
+word_cell (x ∷ xs) r c e = ⊎_elim
+    (λ (t : (eqb (row x) r && eqb (column x) c) ≡ true).
+    let p = and_parts (eqb (row x) r) (eqb (column x) c) t in
+    (0, omega arith, λ d. (eqb-true (row x) r p.0, eqb-true (column x) c p.1)))
+    (λ (f : (eqb (row x) r && eqb (column x) c) ≡ false).
+    let rest = word_cell xs r c (sym (ap is_some (cond-false _ _ _ f)) ∙ e) in
+    (suc rest.0, (let l = rest.1 in omega arith), rest.2))
+    (cases_Bool (eqb (row x) r && eqb (column x) c))
+
+-- a cell gives its position a word
+pub cell_word : (cells : List Cell) (k : ℕ) (d : Cell) → k < length cells → is_some (words_of cells (row (get_or cells k d)) (column (get_or cells k d))) ≡ true
+cell_word [] k d h = absurd (omega arith)
+cell_word (x ∷ xs) zero d h = ap is_some (cond-true _ _ _ (and_from _ _ (eq-eqb (row x) (row x) refl) (eq-eqb (column x) (column x) refl)))
+cell_word (x ∷ xs) (suc k) d h =
+    let r = row (get_or xs k d) in
+    let c = column (get_or xs k d) in
+    ⊎_elim
+    (λ (t : (eqb (row x) r && eqb (column x) c) ≡ true). ap is_some (cond-true _ _ _ t))
+    (λ (f : (eqb (row x) r && eqb (column x) c) ≡ false). ap is_some (cond-false _ _ _ f) ∙ cell_word xs k d (omega arith))
+    (cases_Bool (eqb (row x) r && eqb (column x) c))

@@ -7,7 +7,7 @@ mod methods;
 
 /// The box from a first to a last row and from a first to a last column. None whose ends are out of
 /// order can be made.
-#[derive(Clone, Copy)]
+#[derive(Clone, Copy, Debug, PartialEq, Eq, Hash)]
 pub struct BoundingBox {
     start: Position,
     end: Position,

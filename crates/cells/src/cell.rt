@@ -2,7 +2,7 @@
 use crate::position::Position;
 
 /// A position with the id of its style.
-#[derive(Clone, Copy)]
+#[derive(Clone, Copy, Debug, PartialEq, Eq, Hash)]
 pub struct Cell {
     pub at: Position,
     pub id: u32,

@@ -10,6 +10,6 @@ mod positions;
 
 pub use bounding_box::BoundingBox;
 pub use cell::Cell;
-pub use memory::CellMemory;
+pub use memory::{CellMemory, Full};
 pub use position::Position;
 pub use positions::Positions;

@@ -4,7 +4,10 @@ ghost use Rattle.cells.specs.Words.{Ordered};
 
 use crate::cell::Cell;
 
+mod full;
 mod methods;
+
+pub use full::Full;
 
 /// Memory for a number of cells, kept in order, with no position twice.
 #[derive(Drop)]

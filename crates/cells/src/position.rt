@@ -7,8 +7,9 @@ const ROWS: u32 = 1_048_576;
 /// How many columns a sheet has.
 const COLUMNS: u32 = 16_384;
 
-/// A row and a column of a sheet, both counted from 0. None off the sheet can be made.
-#[derive(Clone, Copy)]
+/// A row and a column of a sheet, both counted from 0. None off the sheet can be made. The order is row
+/// by row, and in a row column by column.
+#[derive(Clone, Copy, Debug, PartialEq, Eq, PartialOrd, Ord, Hash)]
 pub struct Position {
     pub(crate) row: u32,
     pub(crate) column: u32,

@@ -1,10 +1,11 @@
 -- What is known of every last word: it is an id above 0 and below P. And the cells of a sheet count its words.
-use Rattle.std.proofs.Common.{◌≡◌, ℕ, ◌<◌, true, false, not, ◌&&◌, eqb, leb, List, [], ◌∷◌, length, get_or, Some, None, sym, ◌∙◌, ⊎_elim, arith}
+use Rattle.std.proofs.Common.{◌≡◌, ℕ, ◌<◌, true, false, not, ◌&&◌, eqb, leb, List, [], ◌∷◌, length, get_or, Some, sym, ◌∙◌, ⊎_elim, arith}
+use Rattle.std.proofs.lemmas.Option.{same_Some, none-some}
 use Rattle.std.proofs.lemmas.Bool.{cases_Bool, cases_order, and_parts, or_parts, not-true, cond-true, cond-false, eqb-false, leb-false}
 use Rattle.cells.specs.declared.cell.Cell.{Cell}
 use Rattle.cells.specs.Words.{Ordered, words_of}
 use Rattle.cells.proofs.Order.{ordered_at}
-use Rattle.cells.proofs.Around.{word_cell, cell_word}
+use Rattle.cells.proofs.Words.{word_cell, cell_word}
 use Rattle.sheet.specs.Rules.{on_sheet, ignored, room_for, keeps, clears}
 use Rattle.replicas.specs.declared.call.Call.{Call}
 use Rattle.replicas.specs.declared.call.Call.TheVariants.{Put, Clear, Pack}
@@ -12,12 +13,6 @@ use Rattle.replicas.specs.History.{after, last_words, Counts}
 
 abbrev Listed : ℕ → ℕ → Type 0
 Listed P n = (0 < n) × (n < P)
-
-same_some : (m n : ℕ) → Some m ≡ Some n → m ≡ n
-same_some m n e = cc
-
-none_some : (n : ℕ) → None ≡ Some n → ⊥
-none_some n e = let z : ◌≡◌ {A = ℕ} 0 1 = cc in omega arith
 
 not_ignored : (P id : ℕ) → ignored P id ≡ false → Listed P id
 not_ignored P id e =
@@ -27,14 +22,14 @@ not_ignored P id e =
 
 pub word_listed : (P C : ℕ) (h : List Call) (r c n : ℕ) → last_words P C h r c ≡ Some n → Listed P n
 unfolding after
-word_listed P C [] r c n e = absurd (none_some n e)
+word_listed P C [] r c n e = absurd (none-some n e)
 word_listed P C (Put row column id ∷ h) r c n e = ⊎_elim
     (λ (kept : keeps P C (after P C h).words (after P C h).count row column id ≡ true).
     let test = (and_parts (on_sheet row column) (not (ignored P id) && room_for C (after P C h).words (after P C h).count row column) kept).1 in
     let listed = not_ignored P id (not-true _ (and_parts (not (ignored P id)) (room_for C (after P C h).words (after P C h).count row column) test).0) in
     let e' = sym (cond-true _ _ _ kept) ∙ e in
     ⊎_elim
-    (λ (here : (eqb row r && eqb column c) ≡ true). let same = same_some id n (sym (cond-true _ _ _ here) ∙ e') in (omega (arith, listed.0), omega (arith, listed.1)))
+    (λ (here : (eqb row r && eqb column c) ≡ true). let same = same_Some id n (sym (cond-true _ _ _ here) ∙ e') in (omega (arith, listed.0), omega (arith, listed.1)))
     (λ (else : (eqb row r && eqb column c) ≡ false). word_listed P C h r c n (sym (cond-false _ _ _ else) ∙ e'))
     (cases_Bool (eqb row r && eqb column c)))
     (λ (not_kept : keeps P C (after P C h).words (after P C h).count row column id ≡ false). word_listed P C h r c n (sym (cond-false _ _ _ not_kept) ∙ e))
@@ -43,7 +38,7 @@ word_listed P C (Clear row column ∷ h) r c n e = ⊎_elim
     (λ (cleared : clears (after P C h).words (after P C h).count row column ≡ true).
     let e' = sym (cond-true _ _ _ cleared) ∙ e in
     ⊎_elim
-    (λ (here : (eqb row r && eqb column c) ≡ true). absurd (none_some n (sym (cond-true _ _ _ here) ∙ e')))
+    (λ (here : (eqb row r && eqb column c) ≡ true). absurd (none-some n (sym (cond-true _ _ _ here) ∙ e')))
     (λ (else : (eqb row r && eqb column c) ≡ false). word_listed P C h r c n (sym (cond-false _ _ _ else) ∙ e'))
     (cases_Bool (eqb row r && eqb column c)))
     (λ (kept : clears (after P C h).words (after P C h).count row column ≡ false). word_listed P C h r c n (sym (cond-false _ _ _ kept) ∙ e))

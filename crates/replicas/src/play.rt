@@ -4,11 +4,8 @@ ghost use Rattle.sheet.specs.Contents.{memory_cell_room, memory_run_room};
 ghost use Rattle.replicas.specs.declared.call.Call.{Call};
 ghost use Rattle.replicas.specs.Stands.{Applied, Stands};
 ghost use Rattle.replicas.specs.Promise.{Promise, SameRuns};
-ghost use Rattle.std.specs.Option.{option_map};
-ghost use Rattle.cells.specs.Area.{extent};
 
 use crate::call::{Answer, Call};
-use cells::BoundingBox;
 use runs::Mark;
 use sheet::{Sheet, SheetMemory, Xf};
 
@@ -40,24 +37,11 @@ fn play<S>(sheet: &mut Sheet, palette: &[Xf<S>], calls: &[Call])
     }
 }
 
-/// Whether two boxes are the same, or both absent.
-fn same_box(one: Option<BoundingBox>, other: Option<BoundingBox>) -> bool
-    ensures { Decides result (option_map extent one ≡ option_map extent other) }
-{
-    let Some(one) = one else {
-        return other.is_none();
-    };
-    let Some(other) = other else {
-        return false;
-    };
-    one.same(&other)
-}
-
 /// Whether the box and the runs of each kind are the same at two sheets.
 fn agree(loader: &Sheet, floor: &Sheet) -> bool
     ensures { Decides result (SameRuns loader.now floor.now) }
 {
-    let boxes = same_box(loader.bounding_box(), floor.bounding_box());
+    let boxes = loader.bounding_box() == floor.bounding_box();
     let ids = loader.id_runs().same(&floor.id_runs());
     let kinds = loader.kind_runs().same(&floor.kind_runs());
     boxes && ids && kinds

@@ -1,4 +1,3 @@
 pub mod Placing
-pub mod Palette
 pub mod Packs
 pub mod Walks

@@ -11,7 +11,7 @@ use Rattle.formats.specs.declared.CellFormat.{CellFormat}
 use Rattle.cells.specs.declared.cell.Cell.{Cell}
 use Rattle.cells.specs.Area.{Area, size, row_at, column_at}
 use Rattle.cells.specs.Words.{words_of, Least}
-use Rattle.cells.proofs.Around.{cell_word}
+use Rattle.cells.proofs.Words.{cell_word}
 use Rattle.sheet.specs.declared.answers.RunCounts.{RunCounts}
 use Rattle.sheet.specs.declared.answers.PackRefusal.{PackRefusal}
 use Rattle.sheet.specs.declared.answers.PackRefusal.TheVariants.{IdRuns, KindRuns}

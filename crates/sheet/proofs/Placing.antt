@@ -1,16 +1,16 @@
 -- Cells of a box as packing reads them: they are in order, and the mark at each place is that of the word there.
-use Rattle.std.proofs.Common.{◌≡◌, ℕ, suc, ◌+◌, ◌<◌, ◌≤◌, true, false, ◌&&◌, eqb, List, [], ◌∷◌, map, length, get_or, is_some, Some, None, unwrap_or, sym, refl, ap, ◌∙◌, ap₂, ⊎_elim, arith}
+use Rattle.std.proofs.Common.{◌≡◌, ℕ, suc, ◌+◌, ◌<◌, ◌≤◌, true, false, ◌&&◌, eqb, List, [], ◌∷◌, map, length, get_or, is_some, Some, unwrap_or, sym, refl, ap, ◌∙◌, subst, ap₂, ⊎_elim, arith}
 use Rattle.std.specs.List.{slice_get}
 use Rattle.std.proofs.lemmas.Bool.{and_parts, and_from, eqb-true, eqb-false, eq-eqb, cases_Bool, cond-true, cond-false}
-use Rattle.std.proofs.lemmas.List.{length-map, get_or-map}
-use Rattle.std.proofs.lemmas.Option.{slice_get-get_or}
+use Rattle.std.proofs.lemmas.Option.{slice_get-map, slice_get_read}
+use Rattle.std.specs.Option.{option_map}
 use Rattle.runs.specs.declared.marked.Placed.{Placed}
 use Rattle.runs.specs.Marks.{InOrder, mark_of}
 use Rattle.cells.specs.declared.cell.Cell.{Cell}
 use Rattle.cells.specs.Area.{Area, Inside, inside, size, place_in, place_of, row_at, column_at}
 use Rattle.cells.specs.Words.{Ordered, words_of}
 use Rattle.cells.proofs.Order.{ordered_at}
-use Rattle.cells.proofs.Around.{cell_word}
+use Rattle.cells.proofs.Words.{cell_word}
 use Rattle.sheet.specs.Placing.{placed}
 use Rattle.cells.proofs.Places.{inside_true, true_inside, place_below, place_later, place_at, row_place, column_place}
 
@@ -80,20 +80,14 @@ module _ {M : Type 0} (a : Area) (mark : ℕ → M) where
       (cases_Bool (eqb (place_in a x.at.row x.at.column) p))
 
   -- what is read at an index is the cell there, with its place and its mark
-  pub nth_placed : (xs : List Cell) (i : ℕ) (d : Cell) (row column place : ℕ) (m : M) → i < length xs → Held a xs → row ≡ (get_or xs i d).at.row → column ≡ (get_or xs i d).at.column
-      → Some place ≡ place_of a row column → m ≡ mark (get_or xs i d).id → Some (record { place = place; mark = m }) ≡ slice_get (map (placed a mark) xs) i
-  nth_placed xs i d row column place m h held r c e em =
-      let x = get_or xs i d in
-      let within : i < length (map (placed a mark) xs) = simp length-map h in
-      let at : Some place ≡ Some (place_in a x.at.row x.at.column) =
-      e ∙ ap₂ (place_of a) r c ∙ cond-true _ _ _ (true_inside a x.at.row x.at.column (held i d h)) in
-      let same : place ≡ place_in a x.at.row x.at.column = cc in
+  pub nth_placed : (xs : List Cell) (i : ℕ) (x : Cell) (place : ℕ) (m : M) → i < length xs → x ≡ get_or xs i x → place ≡ place_in a x.at.row x.at.column → m ≡ mark x.id
+      → Some (record { place = place; mark = m }) ≡ slice_get (map (placed a mark) xs) i
+  nth_placed xs i x place m h e same em =
       let cell : ◌≡◌ {A = Placed M} (record { place = place; mark = m }) (placed a mark x) = λ j. record { place = same j; mark = em j } in
-      ap Some cell ∙ sym (slice_get-get_or (map (placed a mark) xs) i (placed a mark d) within ∙ ap Some (get_or-map (placed a mark) xs i d (placed a mark d) h))
+      ap Some cell ∙ sym (slice_get-map (placed a mark) xs i ∙ ap (option_map (placed a mark)) (slice_get_read xs (length xs) i x refl h e))
 
 -- a cell that the box holds has a place
-pub place_there : (a : Area) (xs : List Cell) (i : ℕ) (d : Cell) (row column : ℕ) → i < length xs → Held a xs → row ≡ (get_or xs i d).at.row → column ≡ (get_or xs i d).at.column → None ≡ place_of a row column → ⊥
-place_there a xs i d row column h held r c e =
-    let x = get_or xs i d in
-    let none : None ≡ Some (place_in a x.at.row x.at.column) = e ∙ ap₂ (place_of a) r c ∙ cond-true _ _ _ (true_inside a x.at.row x.at.column (held i d h)) in
-    let z : ◌≡◌ {A = ℕ} 0 1 = cc in omega arith
+pub place_there : (a : Area) (xs : List Cell) (i : ℕ) (x : Cell) (row column : ℕ) → i < length xs → Held a xs → x ≡ get_or xs i x → row ≡ x.at.row → column ≡ x.at.column → place_of a row column ≡ Some (place_in a x.at.row x.at.column)
+place_there a xs i x row column h held e r c =
+    let within = subst (λ (y : Cell). Inside a y.at.row y.at.column) (sym e) (held i x h) in
+    ap₂ (place_of a) r c ∙ cond-true _ _ _ (true_inside a x.at.row x.at.column within)

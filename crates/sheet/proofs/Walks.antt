@@ -1,10 +1,12 @@
 -- A walk's place in the runs beside its place in the box.
-use Rattle.std.proofs.Common.{◌≡◌, ℕ, ◌+◌, ◌<◌, ◌≤◌, true, false, ltb, List, [], ◌∷◌, is_some, Some, None, Option, sym, refl, ap, ◌∙◌, ⊎_elim, arith}
+use Rattle.std.proofs.Common.{◌≡◌, ℕ, ◌+◌, ◌<◌, ◌≤◌, true, false, ltb, List, [], ◌∷◌, is_some, Some, None, MatchOption, Option, Bor, sym, refl, ap, ◌∙◌, ⊎_elim, arith}
+use Rattle.std.specs.Option.{option_map}
 use Rattle.std.proofs.lemmas.Bool.{cases_Bool, cond-true, cond-false, lt-ltb, le-ltb, ltb-false, true≢false}
 use Rattle.runs.specs.declared.run.Run.{Run}
 use Rattle.runs.specs.Runs.{mark_at}
 use Rattle.cells.specs.Area.{Area, size, row_at, column_at}
 use Rattle.sheet.specs.declared.xf.Xf.{Xf}
+use Rattle.sheet.specs.Palette.{style_at}
 use Rattle.sheet.specs.Reads.{Seen, seen_at, styled}
 
 -- where the runs have ended, they have ended further on
@@ -36,3 +38,8 @@ seen_there {S} palette a runs p row column style h r c s =
     λ i. record { row = r i; column = c i; style = s i } in
     let here : p ≡ p + 0 = omega arith in
     ap Some cell ∙ sym (cond-true _ _ _ (lt-ltb p (size a) h)) ∙ ap (seen_at palette a runs) here
+
+-- what is made of an id, if there is one, is its style
+pub styled_by : {S : Type 0} {P : ℕ → Type 0} (palette : List (Xf S)) (id : Option ℕ) (style : Option (Bor S)) → MatchOption id (style ≡ None) P → ((n : ℕ) → P n → option_map (λ x. x.now) style ≡ style_at palette n) → option_map (λ x. x.now) style ≡ styled palette id
+styled_by palette None style is by = ap (option_map (λ x. x.now)) is
+styled_by palette (Some n) style is by = by n is

@@ -1,11 +1,13 @@
 //! What the calls of a sheet answer, and how they refuse.
 ghost use Rattle.std.specs.Prelude.{◌≡◌, Some};
 ghost use Rattle.sheet.specs.Refusals.{put_number, clear_number, pack_number, put_text, clear_text, pack_text};
+ghost use Rattle.sheet.specs.declared.answers.PutRefusal.TheVariants.{Full};
 
+use std::error::Error;
 use std::fmt;
 
 /// How a put that is not refused went.
-#[derive(Clone, Copy)]
+#[derive(Clone, Copy, Debug, PartialEq, Eq)]
 pub enum Put {
     /// The cell is kept with its id.
     Kept,
@@ -14,7 +16,7 @@ pub enum Put {
 }
 
 /// Why a put was refused.
-#[derive(Clone, Copy)]
+#[derive(Clone, Copy, Debug, PartialEq, Eq)]
 pub enum PutRefusal {
     /// The row or the column is off the sheet.
     OffSheet,
@@ -23,14 +25,14 @@ pub enum PutRefusal {
 }
 
 /// Why a clear was refused.
-#[derive(Clone, Copy)]
+#[derive(Clone, Copy, Debug, PartialEq, Eq)]
 pub enum ClearRefusal {
     /// The row or the column is off the sheet.
     OffSheet,
 }
 
 /// Why a pack was refused, with the number of runs that it needs.
-#[derive(Clone, Copy)]
+#[derive(Clone, Copy, Debug, PartialEq, Eq)]
 pub enum PackRefusal {
     /// There are more runs of style ids than the run memory has room for.
     IdRuns { needed: usize },
@@ -39,7 +41,7 @@ pub enum PackRefusal {
 }
 
 /// How many runs of each kind an accepted pack wrote.
-#[derive(Clone, Copy)]
+#[derive(Clone, Copy, Debug, PartialEq, Eq)]
 pub struct RunCounts {
     pub ids: usize,
     pub kinds: usize,
@@ -77,6 +79,14 @@ impl PackRefusal {
             PackRefusal::IdRuns { .. } => 12,
             PackRefusal::KindRuns { .. } => 13,
         }
+    }
+}
+
+impl From<cells::Full> for PutRefusal {
+    ghost from_gives = { λ _ refusal. refusal ≡ Full };
+
+    fn from(_: cells::Full) -> PutRefusal {
+        PutRefusal::Full
     }
 }
 
@@ -121,3 +131,9 @@ impl fmt::Display for PackRefusal {
         }
     }
 }
+
+impl Error for PutRefusal {}
+
+impl Error for ClearRefusal {}
+
+impl Error for PackRefusal {}

@@ -74,13 +74,8 @@ impl<'s, M, K: Marking<M>> MarkedBox<M> for MarkedCells<'s, K> {
     }
 
     fn cell(&self, index: usize) -> Option<Placed<M>> {
-        if index >= self.cells.len() {
-            return None;
-        }
-        let cell = self.cells[index];
-        let Some(place) = self.area.place(cell.at.row(), cell.at.column()) else {
-            unreachable()
-        };
+        let cell = self.cells.get(index)?;
+        let place = self.area.place(cell.at.row(), cell.at.column()).unwrap();
         let mark = self.marking.mark_of(cell.id);
         Some(Placed { place, mark })
     }

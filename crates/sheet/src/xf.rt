@@ -16,22 +16,14 @@ pub struct Xf<S> {
 pub(crate) fn kind_of<S>(palette: &[Xf<S>], id: u32) -> CellFormat
     ensures { result ≡ kind_at palette.now id }
 {
-    let index = id as usize;
-    if index < palette.len() {
-        palette[index].kind
-    } else {
-        CellFormat::Other
-    }
+    palette
+        .get(id as usize)
+        .map_or(CellFormat::Other, |xf| xf.kind)
 }
 
 /// The style of an id, or none past the palette.
 pub(crate) fn style_of<'p, S>(palette: &'p [Xf<S>], id: u32) -> Option<&'p S>
     ensures { option_map (λ x. x.now) result ≡ style_at palette.now id }
 {
-    let index = id as usize;
-    if index < palette.len() {
-        Some(&palette[index].style)
-    } else {
-        None
-    }
+    Some(&palette.get(id as usize)?.style)
 }

@@ -1,6 +1,6 @@
 //! What a bounding box is asked.
-ghost use Rattle.std.specs.Prelude.{◌≡◌, ◌<◌, ◌≤◌, min, max, Decides};
-ghost use Rattle.cells.specs.Area.{Area, extent, width, size, place_in, place_of, row_at, column_at, grown};
+ghost use Rattle.std.specs.Prelude.{◌≡◌};
+ghost use Rattle.cells.specs.Area.{extent, width, size, place_of, grown};
 
 use crate::bounding_box::BoundingBox;
 use crate::position::Position;
@@ -61,22 +61,12 @@ impl BoundingBox {
     pub fn place(&self, row: u32, column: u32) -> Option<u64>
         ensures { result ≡ place_of (extent self.now) row column }
     {
-        if row < self.start.row || row > self.end.row {
+        let rows = self.start.row..=self.end.row;
+        let columns = self.start.column..=self.end.column;
+        if !rows.contains(&row) || !columns.contains(&column) {
             return None;
         }
-        if column < self.start.column || column > self.end.column {
-            return None;
-        }
-        let rows = u64::from(row - self.start.row);
-        Some(rows * self.width() + u64::from(column - self.start.column))
-    }
-
-    /// Whether two boxes are the same.
-    pub fn same(&self, other: &BoundingBox) -> bool
-        ensures { Decides result (extent self.now ≡ extent other.now) }
-    {
-        let starts = self.start.row == other.start.row && self.start.column == other.start.column;
-        let ends = self.end.row == other.end.row && self.end.column == other.end.column;
-        starts && ends
+        let rows_above = u64::from(row - self.start.row);
+        Some(rows_above * self.width() + u64::from(column - self.start.column))
     }
 }

@@ -1,7 +1,8 @@
 //! Going through the positions of a box.
-ghost use Rattle.std.specs.Prelude.{◌≡◌, ◌+◌, ◌<◌, ◌≤◌, is_some, if◌then◌else◌, MatchOption};
-ghost use Rattle.cells.specs.Area.{extent, size, row_at, column_at};
-ghost use Rattle.cells.specs.Going.{place};
+ghost use Rattle.std.specs.Prelude.{◌≡◌, ◌-◌, ◌≤◌};
+ghost use Rattle.std.specs.Iterator.{at_most};
+ghost use Rattle.cells.specs.Area.{extent, size};
+ghost use Rattle.cells.specs.Going.{place, Stepped};
 
 use crate::bounding_box::BoundingBox;
 use crate::position::Position;
@@ -21,6 +22,7 @@ impl Positions {
     }
 
     /// No positions: past the last of some box.
+    // An `Option<Positions>` in the walk over a sheet would need each of the walk's two invariants by cases.
     pub fn none() -> Positions
         ensures { size (extent result.area) ≤ place result }
     {
@@ -31,13 +33,16 @@ impl Positions {
             column: 0,
         }
     }
+}
 
-    /// The next position, or none after the last.
-    pub fn next(&mut self) -> Option<Position>
-        ensures item { MatchOption result (size (extent self.old.area) ≤ place self.old) (λ at. (place self.old < size (extent self.old.area)) × (at.row ≡ row_at (extent self.old.area) (place self.old)) × (at.column ≡ column_at (extent self.old.area) (place self.old))) }
-        ensures place { place self.new ≡ (if is_some result then place self.old + 1 else place self.old) }
-        ensures area { self.new.area ≡ self.old.area }
-    {
+impl Iterator for Positions {
+    type Item = Position;
+
+    ghost next_gives = { Stepped };
+
+    ghost remaining = { λ p. at_most (size (extent p.area) - place p) };
+
+    fn next(&mut self) -> Option<Position> {
         let end = self.area.end();
         if self.row > end.row() {
             return None;
@@ -47,11 +52,11 @@ impl Positions {
             column: self.column,
         };
         if at.column < end.column() {
-            self.column = at.column + 1;
-            return Some(at);
+            self.column += 1;
+        } else {
+            self.column = self.area.start().column();
+            self.row += 1;
         }
-        self.column = self.area.start().column();
-        self.row = at.row + 1;
         Some(at)
     }
 }

@@ -57,26 +57,19 @@ impl Sheet {
     ) -> Result<Put, PutRefusal>
         ensures { PutDone (length palette.now) self.old row column id result self.new }
     {
-        let Some(at) = Position::new(row, column) else {
-            return Err(PutRefusal::OffSheet);
-        };
+        let at = Position::new(row, column).ok_or(PutRefusal::OffSheet)?;
         if id == 0 || id as usize >= palette.len() {
             return Ok(Put::Ignored);
         }
-        if self.cells.keep(at, id) {
-            Ok(Put::Kept)
-        } else {
-            Err(PutRefusal::Full)
-        }
+        self.cells.keep(at, id)?;
+        Ok(Put::Kept)
     }
 
     /// Forgets the cell at a position, and answers whether one stood there.
     pub fn clear(&mut self, row: u32, column: u32) -> Result<bool, ClearRefusal>
         ensures { ClearDone self.old row column result self.new }
     {
-        let Some(at) = Position::new(row, column) else {
-            return Err(ClearRefusal::OffSheet);
-        };
+        let at = Position::new(row, column).ok_or(ClearRefusal::OffSheet)?;
         Ok(self.cells.remove(at))
     }
 }

@@ -47,10 +47,7 @@ impl Sheet {
     pub fn walk<'s, 'p, S>(&'s self, palette: &'p [Xf<S>]) -> Walk<'s, 'p, S>
         ensures { (k : ℕ) → coming result k ≡ walked palette.now self.now k }
     {
-        let positions = match self.area {
-            Some(area) => Positions::new(area),
-            None => Positions::none(),
-        };
+        let positions = self.area.map_or_else(Positions::none, Positions::new);
         Walk {
             palette,
             positions,

@@ -17,10 +17,8 @@ impl<'s, 'p, S> Iterator for Walk<'s, 'p, S> {
 
     fn next(&mut self) -> Option<Styled<'p, S>> {
         let at = self.positions.next()?;
-        let style = match self.ids.next() {
-            Some(id) => style_of(self.palette, id),
-            None => None,
-        };
+        let palette = self.palette;
+        let style = self.ids.next().and_then(|id| style_of(palette, id));
         Some(Styled {
             row: at.row(),
             column: at.column(),

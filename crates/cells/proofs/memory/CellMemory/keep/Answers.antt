@@ -1,5 +1,5 @@
 use Rattle.std.proofs.Common.{◌≡◌, ℕ, ◌<◌, true, false, vec_items, vec_len, vec_capacity, sym, refl, ap, ◌∙◌, arith}
-use Rattle.std.proofs.lemmas.Bool.{or_left, or_right, or_from, lt-ltb, le-ltb, cond-true, cond-false, true≢false, both_ways}
+use Rattle.std.proofs.lemmas.Bool.{or_left, or_right, or_from, lt-ltb, le-ltb, cond-true, cond-false, true≢false}
 use Rattle.cells.specs.declared.cell.Cell.{Cell}
 use Rattle.cells.specs.Words.{words_of}
 use Rattle.cells.specs.Kept.{stands_at, kept}
@@ -14,24 +14,33 @@ invariant_of-self c =
     let f = rw c.deref.ensures.value at c.in-Ok.ensures in
     record { ordered = ordered_set m.cells.items c.in-Ok.index x x f.within (f.at x) m.ordered; few = m.few; room = m.room }
 
-pub returns-in-Ok : goal.returns-in-Ok
-returns-in-Ok c =
+pub returns-in-Ok-clause-kept : goal.returns-in-Ok-clause-kept
+returns-in-Ok-clause-kept c =
     let m = c.args.self.now in
     let x : Cell = record { at = c.args.at; id = c.args.id } in
     let f = rw c.deref.ensures.value at c.in-Ok.ensures in
     let found : stands_at m c.args.at ≡ true = stands_found m.cells.items c.args.at c.in-Ok.index f in
     record {
-      kept = record {
-        is = sym (or_left _ _ found);
-        limit_same = refl;
-        words_after = λ _. λ r c'. words_set m.cells.items c.in-Ok.index x x r c' f.within f.before (f.at x);
-        kept_after = λ _. omega (arith, cond-true {A = ℕ} _ 0 1 found);
-      };
-      same = λ e. absurd (true≢false e);
+      is = sym (or_left _ _ found);
+      limit_same = refl;
+      words_after = λ _. λ r c'. words_set m.cells.items c.in-Ok.index x x r c' f.within f.before (f.at x);
+      kept_after = λ _. omega (arith, cond-true {A = ℕ} _ 0 1 found);
     }
 
-pub invariant_of-self-then-len-self : goal.invariant_of-self-then-len-self
-invariant_of-self-then-len-self c =
+pub returns-in-Err-clause-kept : goal.returns-in-Err-clause-kept
+returns-in-Err-clause-kept c =
+    let m = c.args.self.now in
+    let f = rw c.deref.ensures.value at c.in-Err.ensures in
+    let missing : stands_at m c.args.at ≡ false = none_absent m.cells.items c.args.at c.in-Err.field-0 f in
+    record {
+      is = sym (or_from _ _ missing (le-ltb (kept m) m.limit (omega arith)));
+      limit_same = refl;
+      words_after = λ e. absurd (true≢false (sym e));
+      kept_after = λ e. absurd (true≢false (sym e));
+    }
+
+pub invariant_of-self-in-Err-2 : goal.invariant_of-self-in-Err-2
+invariant_of-self-in-Err-2 c =
     let m = c.args.self.now in
     let x : Cell = record { at = c.args.at; id = c.args.id } in
     let f = rw c.deref.ensures.value at c.in-Err.ensures in
@@ -44,46 +53,25 @@ invariant_of-self-then-len-self c =
     let places = c.insert.ensures.by_index in
     record {
       ordered =
-          ordered_inserted m.cells.items (vec_items v) c.in-Err.index m.ordered x (omega arith) (places.0 x done) (λ k h. places.1 k x h) (λ k h. places.2 k x done h)
+          ordered_inserted m.cells.items (vec_items v) c.in-Err.field-0 m.ordered x (omega arith) (places.0 x done) (λ k h. places.1 k x h) (λ k h. places.2 k x done h)
           (λ k h. f.before k x h) (λ k h l. f.after k x h l) f.within;
       few = omega arith;
       room = let same = (c.insert.ensures.in_place room).1.0 in let h = m.room in omega arith;
     }
 
-pub returns-then-len-self : goal.returns-then-len-self
-returns-then-len-self c =
+pub returns-in-Err-2-clause-kept : goal.returns-in-Err-2-clause-kept
+returns-in-Err-2-clause-kept c =
     let m = c.args.self.now in
     let x : Cell = record { at = c.args.at; id = c.args.id } in
     let f = rw c.deref.ensures.value at c.in-Err.ensures in
     let room : vec_len m.cells < vec_capacity m.cells = let h = m.room in omega arith in
     let done = c.insert.ensures.succeeds room in
-    let yes' : c.is_ok.result ≡ true = c.is_ok.ensures.value ∙ done in
-    let missing : stands_at m c.args.at ≡ false = none_absent m.cells.items c.args.at c.in-Err.index f in
+    let missing : stands_at m c.args.at ≡ false = none_absent m.cells.items c.args.at c.in-Err.field-0 f in
     record {
-      kept = record {
-        is = yes' ∙ sym (or_right _ _ (lt-ltb (kept m) m.limit (omega arith)));
-        limit_same = refl;
-        words_after = λ _. λ r c'.
-            ap (λ xs. words_of xs r c') (c.insert.ensures.items ∙ cond-true _ _ _ done)
-            ∙ words_inserted m.cells.items c.in-Err.index x r c' f.within (λ k d h e. let l = f.before k d h in omega arith);
-        kept_after = λ _. let one_more = c.insert.ensures.len ∙ cond-true _ _ _ done in omega (arith, cond-false {A = ℕ} _ 0 1 missing);
-      };
-      same = λ e. absurd (both_ways _ e yes');
-    }
-
-pub returns-else-len-self : goal.returns-else-len-self
-returns-else-len-self c =
-    let m = c.args.self.now in
-    let f = rw c.deref.ensures.value at c.in-Err.ensures in
-    let missing : stands_at m c.args.at ≡ false = none_absent m.cells.items c.args.at c.in-Err.index f in
-    let full = le-ltb c.len.result m.limit c.if-len-self.false in
-    let full' = le-ltb (kept m) m.limit (omega arith) in
-    record {
-      kept = record {
-        is = full ∙ sym (or_from _ _ missing full');
-        limit_same = refl;
-        words_after = λ e. absurd (both_ways _ full e);
-        kept_after = λ e. absurd (both_ways _ full e);
-      };
-      same = λ _. refl;
+      is = sym (or_right _ _ (lt-ltb (kept m) m.limit (omega arith)));
+      limit_same = refl;
+      words_after = λ _. λ r c'.
+          ap (λ xs. words_of xs r c') (c.insert.ensures.items ∙ cond-true _ _ _ done)
+          ∙ words_inserted m.cells.items c.in-Err.field-0 x r c' f.within (λ k d h e. let l = f.before k d h in omega arith);
+      kept_after = λ _. let one_more = c.insert.ensures.len ∙ cond-true _ _ _ done in omega (arith, cond-false {A = ℕ} _ 0 1 missing);
     }
