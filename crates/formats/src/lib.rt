@@ -4,6 +4,9 @@
 ghost use Rattle.formats.specs.Kinds.{same_kind, same_kind_decides, kind_name};
 ghost use Rattle.std.specs.Prelude.{Some};
 
+mod names;
+
+pub use names::UnknownKind;
 use runs::Mark;
 use std::fmt;
 

@@ -1,35 +1,29 @@
--- A call at one of two desks.
-use Rattle.std.proofs.Common.{◌≡◌, Bool, true, false, ◌||◌, List, Some, None, vec_items, Option, Result, sym, subst}
-use Rattle.std.proofs.lemmas.Bool.{true≢false}
+-- A call that found no memory leaves both desks as sound as they were.
+use Rattle.std.proofs.Common.{◌≡◌, Bool, List, reverse, Some, Option, sym, subst}
 use Rattle.sheet.specs.declared.xf.Xf.{Xf}
-use Rattle.replicas.specs.declared.call.Call.{Call}
-use Rattle.replicas.specs.declared.call.Answer.{Answer}
+use Rattle.replicas.specs.Stands.{Stands}
 use Rattle.intake.specs.declared.style.Style.{Style}
 use Rattle.intake.specs.declared.desk.Desk.{Desk}
+use Rattle.intake.specs.declared.desks.Desks.{Desks}
 use Rattle.intake.specs.declared.command.DeskName.{DeskName}
-use Rattle.intake.specs.declared.misread.Misread.{Misread}
-use Rattle.intake.specs.declared.session.Session.{Session}
-use Rattle.intake.specs.Sessions.{MadeAt, Made, desk_at, other_desk, Sound}
+use Rattle.intake.specs.declared.command.DeskName.TheVariants.{Loader, Floor}
+use Rattle.intake.specs.Desks.{calls_of, SameDesk, SameRoom, InStep}
+use Rattle.intake.specs.Places.{desk_at, with_desk}
+use Rattle.intake.specs.Sessions.{Sound}
 
--- once a call was made, less is asked
-later : (palette : List (Xf Style)) (made called : Bool) (o : Option Desk) → Sound palette called o → Sound palette (made || called) o
-later palette true called None s = tt
-later palette true called (Some d) s = (s.0, λ e. absurd (true≢false e))
-later palette false called o s = s
+same_step : (palette : List (Xf Style)) (d d' : Desk) → SameDesk d d' → SameRoom d d' → InStep palette d → InStep palette d'
+same_step palette d d' same same_room st =
+    subst (λ r. Stands palette r.cells r.runs (reverse (calls_of d')) d'.sheet) (sym same_room)
+    (subst (λ s. Stands palette d.room.cells d.room.runs (reverse (calls_of d')) s) (sym same.1)
+    (subst (λ calls. Stands palette d.room.cells d.room.runs (reverse calls) d.sheet) (sym same.0) st))
 
--- The desk was taken from its place, and handed back after the call; the other one stayed.
-pub still_sound : (palette palette' : List (Xf Style)) (called called' made : Bool) (place taken back other : Option Desk) → palette' ≡ palette → taken ≡ place → called' ≡ (made || called)
-    → ((before : Bool) → Sound palette' before taken → Sound palette' (made || before) back) → Sound palette called place → Sound palette called other
-    → Sound palette called' back × Sound palette called' other
-still_sound palette palette' called called' made place taken back other same_palette same_desk same_called step one two =
-    let before = subst (λ p. Sound p called taken) (sym same_palette) (subst (λ o. Sound palette called o) (sym same_desk) one) in
-    let after = subst (λ p. Sound p (made || called) back) same_palette (step called before) in
-    (subst (λ b. Sound palette b back) (sym same_called) after, subst (λ b. Sound palette b other) (sym same_called) (later palette made called other two))
+same_sound : (palette : List (Xf Style)) (called : Bool) (o : Option Desk) (d d' : Desk) → o ≡ Some d → SameDesk d d' → SameRoom d d' → Sound palette called o → Sound palette called (Some d')
+same_sound palette called o d d' there same same_room s =
+    let before = subst (λ x. Sound palette called x) there s in
+    (same_step palette d d' same same_room before.0, λ uncalled any. same_step any d d' same same_room (before.1 uncalled any))
 
-pub made_of : (s s' : Session) (name which : DeskName) (call : Call) (r : Result Answer Misread) (palette : List (Xf Style)) (taken : Option Desk)
-    → name ≡ which → palette ≡ vec_items s.palette.entries → taken ≡ desk_at which s → MadeAt palette taken call r (desk_at which s')
-    → other_desk which s' ≡ other_desk which s → vec_items s'.palette.entries ≡ vec_items s.palette.entries → Made s name call r s'
-made_of s s' name which call r palette taken same_name same_palette same_desk made other entries =
-    let over = subst (λ p. MadeAt p taken call r (desk_at which s')) same_palette made in
-    let at = subst (λ o. MadeAt (vec_items s.palette.entries) o call r (desk_at which s')) same_desk over in
-    subst (λ w. Made s w call r s') (sym same_name) (at, other, entries)
+pub both_sound : (palette : List (Xf Style)) (called : Bool) (name : DeskName) (desks : Desks) (d d' : Desk) → desk_at name desks ≡ Some d → SameDesk d d' → SameRoom d d'
+    → Sound palette called desks.loader × Sound palette called desks.floor
+    → Sound palette called (with_desk name desks (Some d')).loader × Sound palette called (with_desk name desks (Some d')).floor
+both_sound palette called Loader desks d d' there same same_room order = (same_sound palette called desks.loader d d' there same same_room order.0, order.1)
+both_sound palette called Floor desks d d' there same same_room order = (order.0, same_sound palette called desks.floor d d' there same same_room order.1)

@@ -1,3 +1,4 @@
 pub mod Words
 pub mod Desks
+pub mod Places
 pub mod Sessions
