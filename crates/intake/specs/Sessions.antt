@@ -1,16 +1,21 @@
 -- What a session keeps.
-use Rattle.std.specs.Prelude.{◌≡◌, ◌↔◌, Bool, false, List, [], Some, None, Ok, Err, vec_items, Decides, Option, Result, IsErrOf, IsOkUnless}
+use Rattle.std.specs.Prelude.{◌≡◌, ◌↔◌, Bool, false, List, [], Some, None, Ok, Err, vec_items, Decides, Option, Result, IsErrOf, IsOkUnless, MatchOption}
 use Rattle.sheet.specs.declared.xf.Xf.{Xf}
 use Rattle.sheet.specs.declared.room.Room.{Room}
+use Rattle.sheet.specs.Reads.{got, kind_there}
 use Rattle.replicas.specs.declared.call.Call.{Call}
 use Rattle.replicas.specs.declared.call.Answer.{Answer}
 use Rattle.replicas.specs.Promise.{SameRuns}
 use Rattle.intake.specs.declared.style.Style.{Style}
 use Rattle.intake.specs.declared.misread.Misread.{Misread}
 use Rattle.intake.specs.declared.command.DeskName.{DeskName}
+use Rattle.intake.specs.declared.command.Question.{Question}
+use Rattle.intake.specs.declared.command.Question.TheVariants.{Get, Kind as AskKind, Runs as AskRuns, Walk as AskWalk}
+use Rattle.intake.specs.declared.reply.Reply.{Reply}
+use Rattle.intake.specs.declared.reply.Reply.TheVariants.{Style as StyleIs, Kind as KindIs, Runs as RunsOf, Walk as WalkOf}
 use Rattle.intake.specs.declared.desk.Desk.{Desk}
 use Rattle.intake.specs.declared.session.Session.{Session}
-use Rattle.intake.specs.Desks.{calls_of, Recorded, SameDesk, SameRoom, InStep}
+use Rattle.intake.specs.Desks.{calls_of, packed_id, Recorded, SameDesk, SameRoom, InStep}
 use Rattle.intake.specs.Places.{desk_at, other_desk}
 
 -- The call was recorded and made at the desk that is there, or the desk is as it was.
@@ -52,3 +57,12 @@ NewDesk room (Some d) = (calls_of d ≡ []) × (d.room ≡ room)
 -- The one misread comes exactly where the fact holds, and elsewhere only memory can be missing.
 abbrev pub Refuses : {A : Type 0} → Result A Misread → Misread → Type 0 → Misread → Type 0
 Refuses r why P no_memory = (IsErrOf r why ↔ P) × (¬ P → IsOkUnless r no_memory)
+
+-- The reply tells of the sheet that is there: the number of the style at a position, the date kind there, or the sheet itself, to
+-- be printed with its runs, or walked over the palette.
+abbrev pub Answered : List (Xf Style) → Option Desk → Question → Reply → Type 0
+Answered palette (Some d) (Get row column) (StyleIs number) = MatchOption number (got palette d.sheet row column ≡ None) (λ n. packed_id d.sheet row column ≡ Some n)
+Answered palette (Some d) (AskKind row column) (KindIs kind) = kind ≡ kind_there d.sheet row column
+Answered palette (Some d) AskRuns (RunsOf sheet) = sheet.now ≡ d.sheet
+Answered palette (Some d) AskWalk (WalkOf sheet entries) = (sheet.now ≡ d.sheet) × (entries.now ≡ palette)
+Answered palette place question reply = ⊥

@@ -1,6 +1,6 @@
 //! Reading a line as a command.
-ghost use Rattle.std.specs.Prelude.{◌≡◌, ◌≢◌};
-ghost use Rattle.std.specs.Result as results;
+ghost use Rattle.std.specs.Prelude.{◌≡◌, ◌≢◌, ◌⊎◌, IfErr, MatchResult};
+ghost use Rattle.std.specs.Str.Parse.{IsNumeral};
 ghost use Rattle.formats.specs.Kinds.{kind_name};
 ghost use Rattle.formats.specs.declared.CellFormat.{CellFormat};
 ghost use Rattle.intake.specs.Words.{ReadsNumber};
@@ -15,7 +15,8 @@ use std::str::SplitWhitespace;
 
 /// The number that a word of digits alone writes.
 fn number_of(word: &str) -> Result<u32, Misread>
-    ensures { ReadsNumber word.now result }
+    ensures reads { ReadsNumber word.now result }
+    ensures why { IfErr result (λ why. ((why ≡ Misread.NotANumber) × ¬ IsNumeral 10 word.now) ⊎ (why ≡ Misread.PastThirtyTwoBits)) }
 {
     if word.starts_with('+') {
         return Err(Misread::NotANumber);
@@ -28,7 +29,7 @@ fn number_of(word: &str) -> Result<u32, Misread>
 
 /// The date kind that a word names.
 fn kind_of(word: &str) -> Result<CellFormat, Misread>
-    ensures { results.MatchResult result (λ kind. word.now ≡ kind_name kind) (λ _. (kind : CellFormat) → word.now ≢ kind_name kind) }
+    ensures { MatchResult result (λ kind. word.now ≡ kind_name kind) (λ why. (why ≡ Misread.UnknownKind) × ((kind : CellFormat) → word.now ≢ kind_name kind)) }
 {
     word.parse::<CellFormat>().map_err(|_| Misread::UnknownKind)
 }

@@ -1,7 +1,7 @@
 //! A session: a palette and two desks.
 ghost use Rattle.std.specs.Prelude.{◌≡◌, ◌||◌, [], ◌∷◌, ◌++◌, is_ok, vec_len, IfOk, OnOk, OnErr, IsSome, IsNone, IsTrue};
 ghost use Rattle.intake.specs.Places.{desk_at, other_desk};
-ghost use Rattle.intake.specs.Sessions.{Made, NewDesk, InOrder, Agreed, Refuses};
+ghost use Rattle.intake.specs.Sessions.{Made, NewDesk, InOrder, Answered, Agreed, Refuses};
 
 use crate::command::{Command, DeskName, Question};
 use crate::desk::{Desk, compare};
@@ -101,7 +101,10 @@ impl Session {
     }
 
     /// Answers a question about a sheet.
-    fn ask(&self, name: DeskName, question: Question) -> Result<Reply<'_>, Misread> {
+    fn ask(&self, name: DeskName, question: Question) -> Result<Reply<'_>, Misread>
+        ensures answered { IfOk result (λ reply. Answered self.now.palette.entries.items (desk_at name self.now.desks) question reply) }
+        ensures refused { Refuses result Misread.NoSheet (IsNone (desk_at name self.now.desks)) Misread.NoSheet }
+    {
         let desk = self.desks.get(name).ok_or(Misread::NoSheet)?;
         let sheet = desk.sheet();
         let palette = &self.palette;
