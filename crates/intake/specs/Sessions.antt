@@ -1,5 +1,5 @@
 -- What a session keeps.
-use Rattle.std.specs.Prelude.{◌≡◌, ◌↔◌, Bool, false, List, [], Some, None, Ok, Err, vec_items, Decides, Option, Result, IsErrOf, IsOkUnless, MatchOption}
+use Rattle.std.specs.Prelude.{◌≡◌, ◌↔◌, Bool, List, [], Some, None, Ok, Err, vec_items, Decides, Option, Result, IsErrOf, IsOkUnless, MatchOption}
 use Rattle.sheet.specs.declared.xf.Xf.{Xf}
 use Rattle.sheet.specs.declared.room.Room.{Room}
 use Rattle.sheet.specs.Reads.{got, kind_there}
@@ -15,7 +15,7 @@ use Rattle.intake.specs.declared.reply.Reply.{Reply}
 use Rattle.intake.specs.declared.reply.Reply.TheVariants.{Style as StyleIs, Kind as KindIs, Runs as RunsOf, Walk as WalkOf}
 use Rattle.intake.specs.declared.desk.Desk.{Desk}
 use Rattle.intake.specs.declared.session.Session.{Session}
-use Rattle.intake.specs.Desks.{calls_of, packed_id, Recorded, SameDesk, SameRoom, InStep}
+use Rattle.intake.specs.Desks.{calls_of, packed_id, Recorded, SameDesk, SameRoom}
 use Rattle.intake.specs.Places.{desk_at, other_desk}
 
 -- The call was recorded and made at the desk that is there, or the desk is as it was.
@@ -32,16 +32,6 @@ Made s name call r s' =
     MadeAt (vec_items s.palette.entries) (desk_at name s.desks) call r (desk_at name s'.desks)
     × (other_desk name s'.desks ≡ other_desk name s.desks)
     × (vec_items s'.palette.entries ≡ vec_items s.palette.entries)
-
--- A desk that is there is in step with its calls; before the first call of the session it is so over whatever palette.
-abbrev pub Sound : List (Xf Style) → Bool → Option Desk → Type 0
-Sound palette called None = Unit {0}
-Sound palette called (Some d) = InStep palette d × (called ≡ false → (any : List (Xf Style)) → InStep any d)
-
--- Both desks are.
-abbrev pub InOrder : Session → Type 0
-InOrder s =
-    Sound (vec_items s.palette.entries) s.called s.desks.loader × Sound (vec_items s.palette.entries) s.called s.desks.floor
 
 -- The answer says whether the sheets of both desks have the same box and the same runs.
 abbrev pub Agreed : Bool → Option Desk → Option Desk → Type 0

@@ -1,7 +1,6 @@
 //! A session: a palette and two desks.
 ghost use Rattle.std.specs.Prelude.{◌≡◌, ◌||◌, [], ◌∷◌, ◌++◌, is_ok, vec_len, IfOk, OnOk, OnErr, IsSome, IsNone, IsTrue};
-ghost use Rattle.intake.specs.Places.{desk_at, other_desk};
-ghost use Rattle.intake.specs.Sessions.{Made, NewDesk, InOrder, Answered, Agreed, Refuses};
+ghost use Rattle.intake.specs.Order.{InOrder};
 
 use crate::command::{Command, DeskName, Question};
 use crate::desk::{Desk, compare};
@@ -22,13 +21,15 @@ pub struct Session {
     palette: Palette,
     desks: Desks,
     called: bool,
+    ghost in_order: { ∥ InOrder palette.entries.items called desks ∥₁ },
 }
 
 impl Session {
+    ghost use Rattle.intake.specs.Places.{desk_at, other_desk};
+    ghost use Rattle.intake.specs.Sessions.{Made, NewDesk, Answered, Agreed, Refuses};
+
     /// A session with no xf and no sheet.
-    pub fn new(heap: Global) -> Session
-        ensures { InOrder result }
-    {
+    pub fn new(heap: Global) -> Session {
         Session {
             heap,
             palette: Palette::new(heap),
@@ -59,7 +60,6 @@ impl Session {
         ensures refused { Refuses result Misread.SecondSheet (IsSome (desk_at name self.old.desks)) Misread.NoMemoryForSheet }
         ensures err { OnErr result (desk_at name self.new.desks ≡ desk_at name self.old.desks) }
         ensures rest { (other_desk name self.new.desks ≡ other_desk name self.old.desks) × (self.new.palette.entries.items ≡ self.old.palette.entries.items) × (self.new.called ≡ self.old.called) }
-        ensures in_order { InOrder self.old → InOrder self.new }
     {
         let place = self.desks.place(name);
         if place.is_some() {
@@ -76,7 +76,6 @@ impl Session {
         ensures refused { Refuses result Misread.LateXf (IsTrue self.old.called) Misread.NoMemoryForXf }
         ensures err { OnErr result (self.new.palette.entries.items ≡ self.old.palette.entries.items) }
         ensures rest { (self.new.desks ≡ self.old.desks) × (self.new.called ≡ self.old.called) }
-        ensures in_order { InOrder self.old → InOrder self.new }
     {
         if self.called {
             return Err(Misread::LateXf);
@@ -89,7 +88,6 @@ impl Session {
         ensures made { Made self.old name call result self.new }
         ensures refused { Refuses result Misread.NoSheet (IsNone (desk_at name self.old.desks)) Misread.NoMemoryForCall }
         ensures called { self.new.called ≡ (is_ok result || self.old.called) }
-        ensures in_order { InOrder self.old → InOrder self.new }
     {
         let place = self.desks.place(name);
         let desk = place.as_mut().ok_or(Misread::NoSheet)?;
@@ -126,7 +124,7 @@ impl Session {
     /// Whether the two sheets agree.
     fn agree(&self) -> Result<bool, Misread>
         ensures refused { Refuses result Misread.NotBothSheets (¬ (IsSome self.now.desks.loader × IsSome self.now.desks.floor)) Misread.NoMemoryForAgree }
-        ensures agreed { InOrder self.now → IfOk result (λ agree. Agreed agree self.now.desks.loader self.now.desks.floor) }
+        ensures agreed { IfOk result (λ agree. Agreed agree self.now.desks.loader self.now.desks.floor) }
     {
         let desks = &self.desks;
         let loader = desks.get(DeskName::Loader).ok_or(Misread::NotBothSheets)?;
