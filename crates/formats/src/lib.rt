@@ -5,6 +5,9 @@ ghost use Rattle.formats.specs.Kinds.{kind_name};
 ghost use Rattle.std.specs.Prelude.{Some, refl};
 ghost use Rattle.std.proofs.Common.{rules};
 
+mod names;
+
+pub use names::UnknownKind;
 use runs::Mark;
 use std::fmt;
 

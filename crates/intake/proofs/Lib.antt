@@ -1,3 +1,3 @@
+pub mod Agreement
 pub mod Keeping
-pub mod Numbered
 pub mod Replay

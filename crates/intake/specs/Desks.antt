@@ -29,8 +29,8 @@ SameDesk d d' = (calls_of d' ≡ calls_of d) × (d'.sheet ≡ d.sheet)
 
 -- the room for cells and for runs is as it was
 abbrev pub SameRoom : Desk → Desk → Type 0
-SameRoom d d' = (d'.cells ≡ d.cells) × (d'.runs ≡ d.runs)
+SameRoom d d' = d'.room ≡ d.room
 
 -- The sheet is what the recorded calls make of a new one.
 abbrev pub InStep : List (Xf Style) → Desk → Type 0
-InStep palette d = Stands palette d.cells d.runs (reverse (calls_of d)) d.sheet
+InStep palette d = Stands palette d.room.cells d.room.runs (reverse (calls_of d)) d.sheet

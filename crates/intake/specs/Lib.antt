@@ -1,3 +1,5 @@
 pub mod Words
 pub mod Desks
+pub mod Places
+pub mod Order
 pub mod Sessions

@@ -1,16 +1,22 @@
 -- What a session keeps.
-use Rattle.std.specs.Prelude.{◌≡◌, Bool, false, List, Some, None, Ok, Err, vec_items, Decides, Option, Result}
+use Rattle.std.specs.Prelude.{◌≡◌, ◌↔◌, Bool, List, [], Some, None, Ok, Err, vec_items, Decides, Option, Result, IsErrOf, IsOkUnless, MatchOption}
 use Rattle.sheet.specs.declared.xf.Xf.{Xf}
+use Rattle.sheet.specs.declared.room.Room.{Room}
+use Rattle.sheet.specs.Reads.{got, kind_there}
 use Rattle.replicas.specs.declared.call.Call.{Call}
 use Rattle.replicas.specs.declared.call.Answer.{Answer}
 use Rattle.replicas.specs.Promise.{SameRuns}
 use Rattle.intake.specs.declared.style.Style.{Style}
 use Rattle.intake.specs.declared.misread.Misread.{Misread}
 use Rattle.intake.specs.declared.command.DeskName.{DeskName}
-use Rattle.intake.specs.declared.command.DeskName.TheVariants.{Loader, Floor}
+use Rattle.intake.specs.declared.command.Question.{Question}
+use Rattle.intake.specs.declared.command.Question.TheVariants.{Get, Kind as AskKind, Runs as AskRuns, Walk as AskWalk}
+use Rattle.intake.specs.declared.reply.Reply.{Reply}
+use Rattle.intake.specs.declared.reply.Reply.TheVariants.{Style as StyleIs, Kind as KindIs, Runs as RunsOf, Walk as WalkOf}
 use Rattle.intake.specs.declared.desk.Desk.{Desk}
 use Rattle.intake.specs.declared.session.Session.{Session}
-use Rattle.intake.specs.Desks.{Recorded, SameDesk, SameRoom, InStep}
+use Rattle.intake.specs.Desks.{calls_of, packed_id, Recorded, SameDesk, SameRoom}
+use Rattle.intake.specs.Places.{desk_at, other_desk}
 
 -- The call was recorded and made at the desk that is there, or the desk is as it was.
 abbrev pub MadeAt : List (Xf Style) → Option Desk → Call → Result Answer Misread → Option Desk → Type 0
@@ -20,34 +26,33 @@ MadeAt palette (Some d) call r None = ⊥
 MadeAt palette (Some d) call (Ok answer) (Some d') = Recorded palette d call answer d' × SameRoom d d'
 MadeAt palette (Some d) call (Err why) (Some d') = SameDesk d d' × SameRoom d d'
 
--- the desk of a name, and the other one
-abbrev pub desk_at : DeskName → Session → Option Desk
-desk_at Loader s = s.loader
-desk_at Floor s = s.floor
-
-abbrev pub other_desk : DeskName → Session → Option Desk
-other_desk Loader s = s.floor
-other_desk Floor s = s.loader
-
 -- The call was made at the desk of that name, and the rest is as it was.
 abbrev pub Made : Session → DeskName → Call → Result Answer Misread → Session → Type 0
 Made s name call r s' =
-    MadeAt (vec_items s.palette.entries) (desk_at name s) call r (desk_at name s')
-    × (other_desk name s' ≡ other_desk name s)
+    MadeAt (vec_items s.palette.entries) (desk_at name s.desks) call r (desk_at name s'.desks)
+    × (other_desk name s'.desks ≡ other_desk name s.desks)
     × (vec_items s'.palette.entries ≡ vec_items s.palette.entries)
-
--- A desk that is there is in step with its calls; before the first call of the session it is so over whatever palette.
-abbrev pub Sound : List (Xf Style) → Bool → Option Desk → Type 0
-Sound palette called None = Unit {0}
-Sound palette called (Some d) = InStep palette d × (called ≡ false → (any : List (Xf Style)) → InStep any d)
-
--- Both desks are.
-abbrev pub InOrder : Session → Type 0
-InOrder s =
-    Sound (vec_items s.palette.entries) s.called s.loader × Sound (vec_items s.palette.entries) s.called s.floor
 
 -- The answer says whether the sheets of both desks have the same box and the same runs.
 abbrev pub Agreed : Bool → Option Desk → Option Desk → Type 0
 Agreed agree None o = ⊥
 Agreed agree (Some d) None = ⊥
 Agreed agree (Some d) (Some e) = Decides agree (SameRuns d.sheet e.sheet)
+
+-- A new sheet stands at the desk, which had no call yet.
+abbrev pub NewDesk : Room → Option Desk → Type 0
+NewDesk room None = ⊥
+NewDesk room (Some d) = (calls_of d ≡ []) × (d.room ≡ room)
+
+-- The one misread comes exactly where the fact holds, and elsewhere only memory can be missing.
+abbrev pub Refuses : {A : Type 0} → Result A Misread → Misread → Type 0 → Misread → Type 0
+Refuses r why P no_memory = (IsErrOf r why ↔ P) × (¬ P → IsOkUnless r no_memory)
+
+-- The reply tells of the sheet that is there: the number of the style at a position, the date kind there, or the sheet itself, to
+-- be printed with its runs, or walked over the palette.
+abbrev pub Answered : List (Xf Style) → Option Desk → Question → Reply → Type 0
+Answered palette (Some d) (Get row column) (StyleIs number) = MatchOption number (got palette d.sheet row column ≡ None) (λ n. packed_id d.sheet row column ≡ Some n)
+Answered palette (Some d) (AskKind row column) (KindIs kind) = kind ≡ kind_there d.sheet row column
+Answered palette (Some d) AskRuns (RunsOf sheet) = sheet.now ≡ d.sheet
+Answered palette (Some d) AskWalk (WalkOf sheet entries) = (sheet.now ≡ d.sheet) × (entries.now ≡ palette)
+Answered palette place question reply = ⊥

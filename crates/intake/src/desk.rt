@@ -10,30 +10,28 @@ ghost use Rattle.intake.specs.Desks.{calls_of, packed_id, Recorded, SameDesk, Sa
 use crate::palette::Palette;
 use crate::style::Style;
 use replicas::{Answer, Call, apply, play_both};
-use sheet::{Sheet, SheetMemory, Xf};
+use sheet::{Room, Sheet, SheetMemory, Xf};
 use std::alloc::{AllocError, Global};
 
-/// A sheet, the calls that it has had, and how many cells and runs it has room for.
+/// A sheet, the calls that it has had, and how much it has room for.
 #[derive(Drop)]
 pub struct Desk {
     sheet: Sheet,
     calls: Vec<Call>,
-    cells: usize,
-    runs: usize,
+    room: Room,
 }
 
 impl Desk {
     /// A desk with an empty sheet.
-    pub fn new(heap: Global, cells: usize, runs: usize) -> Result<Desk, AllocError>
-        ensures made { IfOk result (λ d. (calls_of d ≡ []) × (d.cells ≡ cells) × (d.runs ≡ runs)) }
+    pub fn new(heap: Global, room: Room) -> Result<Desk, AllocError>
+        ensures made { IfOk result (λ d. (calls_of d ≡ []) × (d.room ≡ room)) }
         ensures in_step { IfOk result (λ d. (palette : List (entry.Xf style.Style)) → InStep palette d) }
     {
-        let memory = SheetMemory::with_room(heap, cells, runs)?;
+        let memory = SheetMemory::with_room(heap, room)?;
         Ok(Desk {
             sheet: Sheet::new(memory),
             calls: Vec::new(heap),
-            cells,
-            runs,
+            room,
         })
     }
 
@@ -48,10 +46,8 @@ impl Desk {
     pub fn style_number(&self, palette: &Palette, row: u32, column: u32) -> Option<u32>
         ensures { options.MatchOption result (got palette.now.entries.items self.now.sheet row column ≡ None) (λ n. packed_id self.now.sheet row column ≡ Some n) }
     {
-        match self.sheet.get(palette.entries(), row, column) {
-            Some(style) => Some(style.number),
-            None => None,
-        }
+        let style = self.sheet.get(palette.entries(), row, column)?;
+        Some(style.number)
     }
 
     /// Records a call, and makes it at the sheet. Where there is no memory to record it, it is not made.
@@ -75,8 +71,8 @@ pub fn compare(
 ) -> Result<bool, AllocError>
     ensures { IfOk result (λ agree. InStep palette.now loader.now → InStep palette.now floor.now → Decides agree (SameRuns loader.now.sheet floor.now.sheet)) }
 {
-    let loader_memory = SheetMemory::with_room(heap, loader.cells, loader.runs)?;
-    let floor_memory = SheetMemory::with_room(heap, floor.cells, floor.runs)?;
+    let loader_memory = SheetMemory::with_room(heap, loader.room)?;
+    let floor_memory = SheetMemory::with_room(heap, floor.room)?;
     let played = play_both::<Style, u32>(
         palette,
         loader_memory,

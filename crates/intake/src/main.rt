@@ -3,6 +3,7 @@
 
 mod command;
 mod desk;
+mod desks;
 mod misread;
 mod palette;
 mod parsing;
@@ -19,24 +20,17 @@ use std::io::{BufRead, BufReader, BufWriter, Write};
 
 /// The line without the carriage return that may end it.
 fn trimmed(line: &[u8]) -> &[u8] {
-    let length = line.len();
-    if length > 0 && line[length - 1] == b'\r' {
-        &line[0..length - 1]
-    } else {
-        line
-    }
+    line.strip_suffix(b"\r").unwrap_or(line)
 }
 
 /// Whether a line has no word in it or is a comment.
 fn is_passed_over(line: &[u8]) -> bool {
-    line.trim_ascii().is_empty() || line[0] == b'#'
+    line.trim_ascii().is_empty() || line.starts_with(b"#")
 }
 
 /// Carries out what a line asks.
 fn answer<'s>(session: &'s mut Session, line: &[u8]) -> Result<Reply<'s>, Misread> {
-    let Ok(text) = std::str::from_utf8(line) else {
-        return Err(Misread::NotText);
-    };
+    let text = std::str::from_utf8(line).map_err(|_| Misread::NotText)?;
     session.carry_out(parse(text)?)
 }
 

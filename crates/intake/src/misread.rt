@@ -1,55 +1,41 @@
 //! Why a line is not understood.
-use std::fmt;
+use thiserror::Error;
 
 /// What is wrong with a line, or what stands in its way.
-#[derive(Clone, Copy)]
+#[derive(Clone, Copy, Debug, Error, PartialEq, Eq)]
 pub enum Misread {
+    #[error("the line is no UTF-8 text")]
     NotText,
+    #[error("a line begins with sheet, xf, agree or the name of a sheet")]
     UnknownWord,
+    #[error("a sheet is named loader or floor")]
     UnknownName,
+    #[error("a kind is Other, DateTime or TimeDelta")]
     UnknownKind,
+    #[error("a sheet is asked to put, clear, pack, get, kind, runs or walk")]
     UnknownCall,
+    #[error("a field is missing")]
     MissingField,
+    #[error("there is a field too many")]
     ExtraField,
+    #[error("a number is written in digits alone")]
     NotANumber,
+    #[error("a number is past 32 bits")]
     PastThirtyTwoBits,
+    #[error("there is no such sheet yet")]
     NoSheet,
+    #[error("both sheets have to be there to agree")]
     NotBothSheets,
+    #[error("there is a sheet of that name already")]
     SecondSheet,
+    #[error("an xf comes before the first put, clear or pack")]
     LateXf,
+    #[error("no memory for the sheet")]
     NoMemoryForSheet,
+    #[error("no memory for the xf")]
     NoMemoryForXf,
+    #[error("no memory for the call")]
     NoMemoryForCall,
+    #[error("no memory for the sheets to compare")]
     NoMemoryForAgree,
-}
-
-impl Misread {
-    /// The reason, in words.
-    pub fn words(&self) -> &'static str {
-        match *self {
-            Misread::NotText => "the line is no UTF-8 text",
-            Misread::UnknownWord => "a line begins with sheet, xf, agree or the name of a sheet",
-            Misread::UnknownName => "a sheet is named loader or floor",
-            Misread::UnknownKind => "a kind is Other, DateTime or TimeDelta",
-            Misread::UnknownCall => "a sheet is asked to put, clear, pack, get, kind, runs or walk",
-            Misread::MissingField => "a field is missing",
-            Misread::ExtraField => "there is a field too many",
-            Misread::NotANumber => "a number is written in digits alone",
-            Misread::PastThirtyTwoBits => "a number is past 32 bits",
-            Misread::NoSheet => "there is no such sheet yet",
-            Misread::NotBothSheets => "both sheets have to be there to agree",
-            Misread::SecondSheet => "there is a sheet of that name already",
-            Misread::LateXf => "an xf comes before the first put, clear or pack",
-            Misread::NoMemoryForSheet => "no memory for the sheet",
-            Misread::NoMemoryForXf => "no memory for the xf",
-            Misread::NoMemoryForCall => "no memory for the call",
-            Misread::NoMemoryForAgree => "no memory for the sheets to compare",
-        }
-    }
-}
-
-impl fmt::Display for Misread {
-    fn fmt<W: fmt::Write>(&self, f: &mut fmt::Formatter<W>) -> fmt::Result {
-        f.write_str(self.words())
-    }
 }

@@ -35,15 +35,13 @@ impl Palette {
 
     /// Adds an entry of a kind, and answers its number.
     pub fn add(&mut self, kind: CellFormat) -> Result<u32, Misread>
-        ensures { MatchResult result (λ n. (n ≡ vec_len self.old.entries) × (self.new.entries.items ≡ self.old.entries.items ++ record { style = record { number = n }; kind = kind } ∷ [])) (λ _. self.new.entries.items ≡ self.old.entries.items) }
+        ensures { MatchResult result (λ n. (n ≡ vec_len self.old.entries) × (self.new.entries.items ≡ self.old.entries.items ++ record { style = record { number = n }; kind = kind } ∷ [])) (λ why. (why ≡ Misread.NoMemoryForXf) × (self.new.entries.items ≡ self.old.entries.items)) }
     {
-        let Ok(number) = u32::try_from(self.entries.len()) else {
-            return Err(Misread::NoMemoryForXf);
-        };
+        let number = u32::try_from(self.entries.len()).map_err(|_| Misread::NoMemoryForXf)?;
         let style = Style { number };
-        match self.entries.push(Xf { style, kind }) {
-            Ok(()) => Ok(number),
-            Err(_) => Err(Misread::NoMemoryForXf),
-        }
+        self.entries
+            .push(Xf { style, kind })
+            .map_err(|_| Misread::NoMemoryForXf)?;
+        Ok(number)
     }
 }

@@ -1,60 +1,37 @@
 //! Reading a line as a command.
-ghost use Rattle.std.specs.Prelude.{◌≡◌, ◌≢◌};
-ghost use Rattle.std.specs.Option as options;
-ghost use Rattle.std.specs.Result as results;
+ghost use Rattle.std.specs.Prelude.{◌≡◌, ◌≢◌, ◌⊎◌, IfErr, MatchResult};
+ghost use Rattle.std.specs.Str.Parse.{IsNumeral};
 ghost use Rattle.formats.specs.Kinds.{kind_name};
 ghost use Rattle.formats.specs.declared.CellFormat.{CellFormat};
-ghost use Rattle.intake.specs.declared.command.DeskName.{DeskName};
-ghost use Rattle.intake.specs.Words.{ReadsNumber, desk_word};
+ghost use Rattle.intake.specs.Words.{ReadsNumber};
 
 use crate::command::{Command, DeskName, Question};
 use crate::misread::Misread;
 use formats::CellFormat;
 use replicas::Call;
+use sheet::Room;
 use std::num::IntErrorKind;
 use std::str::SplitWhitespace;
 
 /// The number that a word of digits alone writes.
 fn number_of(word: &str) -> Result<u32, Misread>
-    ensures { ReadsNumber word.now result }
+    ensures reads { ReadsNumber word.now result }
+    ensures why { IfErr result (λ why. ((why ≡ Misread.NotANumber) × ¬ IsNumeral 10 word.now) ⊎ (why ≡ Misread.PastThirtyTwoBits)) }
 {
-    let bytes = word.as_bytes();
-    if bytes.len() > 0 && bytes[0] == b'+' {
+    if word.starts_with('+') {
         return Err(Misread::NotANumber);
     }
-    match word.parse::<u32>() {
-        Ok(number) => Ok(number),
-        Err(error) => {
-            if *error.kind() == IntErrorKind::PosOverflow {
-                Err(Misread::PastThirtyTwoBits)
-            } else {
-                Err(Misread::NotANumber)
-            }
-        }
-    }
+    word.parse::<u32>().map_err(|error| match *error.kind() {
+        IntErrorKind::PosOverflow => Misread::PastThirtyTwoBits,
+        _ => Misread::NotANumber,
+    })
 }
 
 /// The date kind that a word names.
 fn kind_of(word: &str) -> Result<CellFormat, Misread>
-    ensures { results.MatchResult result (λ kind. word.now ≡ kind_name kind) (λ _. (kind : CellFormat) → word.now ≢ kind_name kind) }
+    ensures { MatchResult result (λ kind. word.now ≡ kind_name kind) (λ why. (why ≡ Misread.UnknownKind) × ((kind : CellFormat) → word.now ≢ kind_name kind)) }
 {
-    match word {
-        "Other" => Ok(CellFormat::Other),
-        "DateTime" => Ok(CellFormat::DateTime),
-        "TimeDelta" => Ok(CellFormat::TimeDelta),
-        _ => Err(Misread::UnknownKind),
-    }
-}
-
-/// The desk that a word names.
-fn desk_of(word: &str) -> Option<DeskName>
-    ensures { options.MatchOption result ((name : DeskName) → word.now ≢ desk_word name) (λ name. word.now ≡ desk_word name) }
-{
-    match word {
-        "loader" => Some(DeskName::Loader),
-        "floor" => Some(DeskName::Floor),
-        _ => None,
-    }
+    word.parse::<CellFormat>().map_err(|_| Misread::UnknownKind)
 }
 
 /// The words of a line that are still to be read.
@@ -66,10 +43,7 @@ struct Fields<'l> {
 impl<'l> Fields<'l> {
     /// The next word.
     fn word(&mut self) -> Result<&'l str, Misread> {
-        match self.words.next() {
-            Some(word) => Ok(word),
-            None => Err(Misread::MissingField),
-        }
+        self.words.next().ok_or(Misread::MissingField)
     }
 
     /// The next word, as a number.
@@ -79,23 +53,21 @@ impl<'l> Fields<'l> {
 
     /// No word is left.
     fn end(&mut self) -> Result<(), Misread> {
-        match self.words.next() {
-            Some(_) => Err(Misread::ExtraField),
-            None => Ok(()),
+        if self.words.next().is_some() {
+            return Err(Misread::ExtraField);
         }
+        Ok(())
     }
 }
 
 /// `sheet NAME C R`, from the name on.
 fn read_sheet(fields: &mut Fields<'_>) -> Result<Command, Misread> {
-    let Some(name) = desk_of(fields.word()?) else {
-        return Err(Misread::UnknownName);
+    let name = fields.word()?.parse::<DeskName>()?;
+    let room = Room {
+        cells: fields.number()? as usize,
+        runs: fields.number()? as usize,
     };
-    Ok(Command::Open {
-        name,
-        cells: fields.number()?,
-        runs: fields.number()?,
-    })
+    Ok(Command::Open { name, room })
 }
 
 /// A put, a clear or a pack, after its word; none at another word.
@@ -146,7 +118,7 @@ fn read_at_desk(name: DeskName, fields: &mut Fields<'_>) -> Result<Command, Misr
 /// What the words of a line ask, from the first on.
 fn read_command(fields: &mut Fields<'_>) -> Result<Command, Misread> {
     let word = fields.word()?;
-    if let Some(name) = desk_of(word) {
+    if let Ok(name) = word.parse::<DeskName>() {
         return read_at_desk(name, fields);
     }
     match word {

@@ -80,10 +80,7 @@ fn write_walk<W: fmt::Write>(
     sheet: &Sheet,
     palette: &[Xf<Style>],
 ) -> fmt::Result {
-    let positions = match sheet.bounding_box() {
-        Some(area) => area.positions(),
-        None => 0,
-    };
+    let positions = sheet.bounding_box().map_or(0, |area| area.positions());
     write!(f, "{positions}")?;
     for styled in sheet.walk(palette) {
         write_styled(f, styled)?;

@@ -1,16 +1,17 @@
 //! A session: a palette and two desks.
-ghost use Rattle.std.specs.Prelude.{◌≡◌, Bool, ◌||◌, is_ok, IfOk};
-ghost use Rattle.intake.specs.Sessions.{MadeAt, Made, Sound, InOrder, Agreed};
+ghost use Rattle.std.specs.Prelude.{◌≡◌, ◌||◌, [], ◌∷◌, ◌++◌, is_ok, vec_len, IfOk, OnOk, OnErr, IsSome, IsNone, IsTrue};
+ghost use Rattle.intake.specs.Order.{InOrder};
 
 use crate::command::{Command, DeskName, Question};
 use crate::desk::{Desk, compare};
+use crate::desks::Desks;
 use crate::misread::Misread;
 use crate::palette::Palette;
 use crate::reply::Reply;
 use crate::style::Style;
 use formats::CellFormat;
 use replicas::{Answer, Call};
-use sheet::Xf;
+use sheet::Room;
 use std::alloc::Global;
 
 /// The palette, the sheets that are there, and whether a call was made at one of them.
@@ -18,39 +19,21 @@ use std::alloc::Global;
 pub struct Session {
     heap: Global,
     palette: Palette,
-    loader: Option<Desk>,
-    floor: Option<Desk>,
+    desks: Desks,
     called: bool,
-}
-
-/// Makes a call at a desk, where there is one, and hands the desk back.
-fn make_at(
-    place: Option<Desk>,
-    palette: &[Xf<Style>],
-    call: Call,
-) -> (Option<Desk>, Result<Answer, Misread>)
-    ensures made { MadeAt palette.now place call result.1 result.0 }
-    ensures sound { (called : Bool) → Sound palette.now called place → Sound palette.now (is_ok result.1 || called) result.0 }
-{
-    let Some(mut desk) = place else {
-        return (None, Err(Misread::NoSheet));
-    };
-    match desk.make_call(palette, call) {
-        Ok(answer) => (Some(desk), Ok(answer)),
-        Err(_) => (Some(desk), Err(Misread::NoMemoryForCall)),
-    }
+    ghost in_order: { ∥ InOrder palette.entries.items called desks ∥₁ },
 }
 
 impl Session {
+    ghost use Rattle.intake.specs.Places.{desk_at, other_desk};
+    ghost use Rattle.intake.specs.Sessions.{Made, NewDesk, Answered, Agreed, Refuses};
+
     /// A session with no xf and no sheet.
-    pub fn new(heap: Global) -> Session
-        ensures { InOrder result }
-    {
+    pub fn new(heap: Global) -> Session {
         Session {
             heap,
             palette: Palette::new(heap),
-            loader: None,
-            floor: None,
+            desks: Desks::default(),
             called: false,
         }
     }
@@ -58,8 +41,8 @@ impl Session {
     /// Carries a command out, and answers it. Where it cannot be, nothing changes.
     pub fn carry_out(&mut self, command: Command) -> Result<Reply<'_>, Misread> {
         match command {
-            Command::Open { name, cells, runs } => {
-                self.open(name, cells as usize, runs as usize)?;
+            Command::Open { name, room } => {
+                self.open(name, room)?;
                 Ok(Reply::Ready)
             }
             Command::AddXf { kind } => Ok(Reply::Added {
@@ -72,29 +55,27 @@ impl Session {
     }
 
     /// Makes the sheet of a desk.
-    fn open(&mut self, name: DeskName, cells: usize, runs: usize) -> Result<(), Misread>
-        ensures { InOrder self.old → InOrder self.new }
+    fn open(&mut self, name: DeskName, room: Room) -> Result<(), Misread>
+        ensures made { OnOk result (NewDesk room (desk_at name self.new.desks)) }
+        ensures refused { Refuses result Misread.SecondSheet (IsSome (desk_at name self.old.desks)) Misread.NoMemoryForSheet }
+        ensures err { OnErr result (desk_at name self.new.desks ≡ desk_at name self.old.desks) }
+        ensures rest { (other_desk name self.new.desks ≡ other_desk name self.old.desks) × (self.new.palette.entries.items ≡ self.old.palette.entries.items) × (self.new.called ≡ self.old.called) }
     {
-        let is_there = match name {
-            DeskName::Loader => self.loader.is_some(),
-            DeskName::Floor => self.floor.is_some(),
-        };
-        if is_there {
+        let place = self.desks.place(name);
+        if place.is_some() {
             return Err(Misread::SecondSheet);
         }
-        let Ok(desk) = Desk::new(self.heap, cells, runs) else {
-            return Err(Misread::NoMemoryForSheet);
-        };
-        match name {
-            DeskName::Loader => self.loader = Some(desk),
-            DeskName::Floor => self.floor = Some(desk),
-        }
+        let desk = Desk::new(self.heap, room).map_err(|_| Misread::NoMemoryForSheet)?;
+        *place = Some(desk);
         Ok(())
     }
 
     /// Adds an entry to the palette, as long as no call was made.
     fn add_xf(&mut self, kind: CellFormat) -> Result<u32, Misread>
-        ensures { InOrder self.old → InOrder self.new }
+        ensures added { IfOk result (λ n. (n ≡ vec_len self.old.palette.entries) × (self.new.palette.entries.items ≡ self.old.palette.entries.items ++ record { style = record { number = n }; kind = kind } ∷ [])) }
+        ensures refused { Refuses result Misread.LateXf (IsTrue self.old.called) Misread.NoMemoryForXf }
+        ensures err { OnErr result (self.new.palette.entries.items ≡ self.old.palette.entries.items) }
+        ensures rest { (self.new.desks ≡ self.old.desks) × (self.new.called ≡ self.old.called) }
     {
         if self.called {
             return Err(Misread::LateXf);
@@ -105,33 +86,24 @@ impl Session {
     /// Makes a call at a sheet.
     fn make(&mut self, name: DeskName, call: Call) -> Result<Answer, Misread>
         ensures made { Made self.old name call result self.new }
-        ensures in_order { InOrder self.old → InOrder self.new }
+        ensures refused { Refuses result Misread.NoSheet (IsNone (desk_at name self.old.desks)) Misread.NoMemoryForCall }
+        ensures called { self.new.called ≡ (is_ok result || self.old.called) }
     {
-        match name {
-            DeskName::Loader => {
-                let (desk, made) = make_at(self.loader.take(), self.palette.entries(), call);
-                self.loader = desk;
-                self.called = made.is_ok() || self.called;
-                made
-            }
-            DeskName::Floor => {
-                let (desk, made) = make_at(self.floor.take(), self.palette.entries(), call);
-                self.floor = desk;
-                self.called = made.is_ok() || self.called;
-                made
-            }
-        }
+        let place = self.desks.place(name);
+        let desk = place.as_mut().ok_or(Misread::NoSheet)?;
+        let answer = desk
+            .make_call(self.palette.entries(), call)
+            .map_err(|_| Misread::NoMemoryForCall)?;
+        self.called = true;
+        Ok(answer)
     }
 
     /// Answers a question about a sheet.
-    fn ask(&self, name: DeskName, question: Question) -> Result<Reply<'_>, Misread> {
-        let place = match name {
-            DeskName::Loader => &self.loader,
-            DeskName::Floor => &self.floor,
-        };
-        let Some(desk) = place else {
-            return Err(Misread::NoSheet);
-        };
+    fn ask(&self, name: DeskName, question: Question) -> Result<Reply<'_>, Misread>
+        ensures answered { IfOk result (λ reply. Answered self.now.palette.entries.items (desk_at name self.now.desks) question reply) }
+        ensures refused { Refuses result Misread.NoSheet (IsNone (desk_at name self.now.desks)) Misread.NoSheet }
+    {
+        let desk = self.desks.get(name).ok_or(Misread::NoSheet)?;
         let sheet = desk.sheet();
         let palette = &self.palette;
         let reply = match question {
@@ -151,14 +123,14 @@ impl Session {
 
     /// Whether the two sheets agree.
     fn agree(&self) -> Result<bool, Misread>
-        ensures { InOrder self.now → IfOk result (λ agree. Agreed agree self.now.loader self.now.floor) }
+        ensures refused { Refuses result Misread.NotBothSheets (¬ (IsSome self.now.desks.loader × IsSome self.now.desks.floor)) Misread.NoMemoryForAgree }
+        ensures agreed { IfOk result (λ agree. Agreed agree self.now.desks.loader self.now.desks.floor) }
     {
-        let (Some(loader), Some(floor)) = (&self.loader, &self.floor) else {
-            return Err(Misread::NotBothSheets);
-        };
-        match compare(self.heap, self.palette.entries(), loader, floor) {
-            Ok(agree) => Ok(agree),
-            Err(_) => Err(Misread::NoMemoryForAgree),
-        }
+        let desks = &self.desks;
+        let loader = desks.get(DeskName::Loader).ok_or(Misread::NotBothSheets)?;
+        let floor = desks.get(DeskName::Floor).ok_or(Misread::NotBothSheets)?;
+        compare(self.heap, self.palette.entries(), loader, floor).map_err(
+            |_| Misread::NoMemoryForAgree,
+        )
     }
 }

@@ -4,10 +4,12 @@
 mod answers;
 mod marked;
 mod memory;
+mod room;
 mod walk;
 mod xf;
 
 pub use answers::{ClearRefusal, PackRefusal, Put, PutRefusal, RunCounts};
 pub use memory::{Sheet, SheetMemory};
+pub use room::Room;
 pub use walk::{Styled, Walk};
 pub use xf::Xf;

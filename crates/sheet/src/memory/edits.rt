@@ -4,6 +4,7 @@ ghost use Rattle.sheet.specs.Edits.{Blank, Made, PutDone, ClearDone};
 
 use crate::answers::{ClearRefusal, Put, PutRefusal};
 use crate::memory::{Sheet, SheetMemory};
+use crate::room::Room;
 use crate::xf::Xf;
 use cells::{CellMemory, Position};
 use formats::CellFormat;
@@ -11,17 +12,16 @@ use runs::RunMemory;
 use std::alloc::{AllocError, Global};
 
 impl SheetMemory {
-    /// Memory for a number of cells and of runs of each kind: no cells, and runs of id 0 and of `Other`
-    /// that end at 0.
-    pub fn with_room(heap: Global, cells: usize, runs: usize) -> Result<SheetMemory, AllocError>
-        ensures { IfOk result (λ m. Blank cells runs m) }
+    /// Memory with that room: no cells, and runs of id 0 and of `Other` that end at 0.
+    pub fn with_room(heap: Global, room: Room) -> Result<SheetMemory, AllocError>
+        ensures { IfOk result (λ m. Blank room.cells room.runs m) }
     {
         Ok(SheetMemory {
-            cells: CellMemory::new(heap, cells)?,
-            ids: vec![in heap; 0; runs]?,
-            id_ends: vec![in heap; 0; runs]?,
-            kinds: vec![in heap; CellFormat::Other; runs]?,
-            kind_ends: vec![in heap; 0; runs]?,
+            cells: CellMemory::new(heap, room.cells)?,
+            ids: vec![in heap; 0; room.runs]?,
+            id_ends: vec![in heap; 0; room.runs]?,
+            kinds: vec![in heap; CellFormat::Other; room.runs]?,
+            kind_ends: vec![in heap; 0; room.runs]?,
         })
     }
 }

@@ -12,6 +12,6 @@ returns c loader-stands floor-stands =
     let loader_room = c.in_ok-loader_memory.ensures in
     let floor_room = c.in_ok-floor_memory.ensures in
     decided_of_same played.agree played.loader played.floor loader.sheet floor.sheet
-    (replayed palette loader.cells loader.runs _ _ _ _ loader.sheet played.loader loader_room.cell_room_is loader_room.run_room_is c.deref.ensures.value loader-stands promise.loader)
-    (replayed palette floor.cells floor.runs _ _ _ _ floor.sheet played.floor floor_room.cell_room_is floor_room.run_room_is c.deref-2.ensures.value floor-stands promise.floor)
+    (replayed palette loader.room.cells loader.room.runs _ _ _ _ loader.sheet played.loader loader_room.cell_room_is loader_room.run_room_is c.deref.ensures.value loader-stands promise.loader)
+    (replayed palette floor.room.cells floor.room.runs _ _ _ _ floor.sheet played.floor floor_room.cell_room_is floor_room.run_room_is c.deref-2.ensures.value floor-stands promise.floor)
     promise.answer

@@ -1,42 +1,29 @@
--- The call is made at the desk of that name, which stays in step with its calls, and the other one is not touched.
-use Rattle.std.proofs.Common.{◌||◌, is_ok as isOk, vec_items, sym, refl, ap, ◌∙◌}
-use Rattle.intake.specs.declared.command.DeskName.TheVariants.{Loader, Floor}
-use Rattle.intake.specs.declared.session.Session.{Session}
-use Rattle.intake.proofs.Keeping.{made_of, still_sound}
+-- The desk of that name stays in step with its calls, and the other one is not touched.
+use Rattle.std.proofs.Common.{rules, ◌≡◌, Some, vec_items}
+use Rattle.intake.specs.Desks.{SameDesk, InStep}
+use Rattle.intake.specs.Places.{desk_at}
+use Rattle.intake.proofs.Keeping.{left_alone, not_made, made}
 use Rattle.intake.proofs.session.Session.make.Goals as goal
-use Rattle.intake.proofs.session.Session.make.Goals.{then-is_ok, else-is_ok, then-is_ok-2, else-is_ok-2}
 
-pub returns-after-is_ok : goal.returns-after-is_ok
-returns-after-is_ok c =
+pub invariant_of-self : goal.invariant_of-self
+invariant_of-self c =
     let session = c.args.self.now in
-    let is_ok = c.is_ok.ensures.value in
-    let after : Session = record { heap = session.heap; palette = session.palette; loader = c.make_at-desk.result.0; floor = session.floor; called = c.if-is_ok.self } in
-    record {
-      made = made_of session after c.args.name Loader c.args.call c.make_at-desk.result.1 c.entries.result.now c.take.result c.in-Loader.is c.entries.ensures c.take.ensures.value c.make_at-desk.ensures.made refl refl;
-      in_order = λ order.
-          still_sound (vec_items session.palette.entries) c.entries.result.now session.called c.if-is_ok.self (isOk c.make_at-desk.result.1) session.loader c.take.result c.make_at-desk.result.0 session.floor
-          c.entries.ensures c.take.ensures.value
-          (elim c.if-is_ok.branch [
-            | then-is_ok w ↦ w.self-is ∙ w.if-is_ok.true ∙ ap (λ b. b || session.called) (sym w.if-is_ok.true ∙ is_ok)
-            | else-is_ok w ↦ w.self-is ∙ ap (λ b. b || session.called) (sym w.if-is_ok.false ∙ is_ok)
-          ])
-          c.make_at-desk.ensures.sound order.0 order.1;
-    }
+    record { in_order = left_alone (vec_items session.palette.entries) session.called c.args.name session.desks c.place-place.result.now c.place-place.ensures.value session.in_order }
 
-pub returns-after-is_ok-2 : goal.returns-after-is_ok-2
-returns-after-is_ok-2 c =
+pub invariant_of-self-in-Break-branch-2 : goal.invariant_of-self-in-Break-branch-2
+invariant_of-self-in-Break-branch-2 c =
     let session = c.args.self.now in
-    let is_ok = c.is_ok-in-Floor.ensures.value in
-    let after : Session = record { heap = session.heap; palette = session.palette; loader = session.loader; floor = c.make_at-desk-in-Floor.result.0; called = c.if-is_ok-2.self } in
-    record {
-      made = made_of session after c.args.name Floor c.args.call c.make_at-desk-in-Floor.result.1 c.entries-in-Floor.result.now c.take-in-Floor.result c.in-Floor.is c.entries-in-Floor.ensures c.take-in-Floor.ensures.value c.make_at-desk-in-Floor.ensures.made refl refl;
-      in_order = λ order.
-          let both = still_sound (vec_items session.palette.entries) c.entries-in-Floor.result.now session.called c.if-is_ok-2.self (isOk c.make_at-desk-in-Floor.result.1) session.floor c.take-in-Floor.result c.make_at-desk-in-Floor.result.0 session.loader
-          c.entries-in-Floor.ensures c.take-in-Floor.ensures.value
-          (elim c.if-is_ok-2.branch [
-            | then-is_ok-2 w ↦ w.self-is ∙ w.if-is_ok-2.true ∙ ap (λ b. b || session.called) (sym w.if-is_ok-2.true ∙ is_ok)
-            | else-is_ok-2 w ↦ w.self-is ∙ ap (λ b. b || session.called) (sym w.if-is_ok-2.false ∙ is_ok)
-          ])
-          c.make_at-desk-in-Floor.ensures.sound order.1 order.0 in
-          (both.1, both.0);
-    }
+    let desk = c.in_ok-desk.desk.now in
+    let after = c.make_call.new.self in
+    let there : desk_at c.args.name session.desks ≡ Some desk = search rules in
+    let same : SameDesk desk after = search rules in
+    record { in_order = not_made (vec_items session.palette.entries) session.called c.args.name session.desks desk after there same c.make_call.ensures.room session.in_order }
+
+pub invariant_of-self-2 : goal.invariant_of-self-2
+invariant_of-self-2 c =
+    let session = c.args.self.now in
+    let desk = c.in_ok-desk.desk.now in
+    let after = c.make_call.new.self in
+    let there : desk_at c.args.name session.desks ≡ Some desk = search rules in
+    let step : InStep (vec_items session.palette.entries) desk → InStep (vec_items session.palette.entries) after = search rules in
+    record { in_order = made (vec_items session.palette.entries) session.called c.args.name session.desks desk after there step session.in_order }
