@@ -1,13 +1,11 @@
 -- A check of all items, item by item.
-use Rattle.std.proofs.Common.{◌≡◌, ℕ, ltb, Bool, false, Option, Some, None, List, [], ◌∷◌, ◌++◌, Decides, refl, ap, subst, inl, inr, ⊎_elim, arith}
+use Rattle.std.proofs.Common.{◌≡◌, ℕ, ltb, Bool, false, Option, Some, None, List, [], ◌∷◌, ◌++◌, Decides, refl, ap, subst, inr, ⊎_elim, arith}
 use Rattle.std.proofs.lemmas.Bool.Decides.{Decides-ltb}
-use Rattle.attrs.specs.Bytes.{white, All}
-use Rattle.attrs.specs.Grammar.{Attribute, First, Front, Has, Distinct, WellFormed, past}
-use Rattle.attrs.specs.Flaws.{Faulty, FirstFault}
+use Rattle.attrs.specs.Grammar.{Attribute, First, Front, Has, Distinct, past}
+use Rattle.attrs.specs.Flaws.{FirstFault}
 use Rattle.attrs.specs.Items.{attribute_of, Found, Unambiguous}
 use Rattle.attrs.specs.Seen.{key_number, Marked}
 use Rattle.attrs.specs.declared.fault.Flaw.TheVariants.{Repeated}
-use Rattle.attrs.specs.declared.fault.Fault.{Fault}
 use Rattle.attrs.specs.declared.item.Item.{Item}
 use Rattle.std.specs.Option.{MatchOption}
 use Rattle.attrs.proofs.Fronts.{front_push, has_push, distinct_push, items_one, fault_one, fault_not_formed}
@@ -20,9 +18,6 @@ pub record Sound (place : ℕ) (bytes words : List ℕ) (end : ℕ) (rest : List
   pub distinct : Distinct items
   pub noted : (key : List ℕ) → Has key items → Marked words (key_number key)
 
-pub sound_none : (place : ℕ) (bytes words : List ℕ) → Sound place bytes words place bytes
-sound_none place bytes words = record { items = []; front = (refl, refl); distinct = tt; noted = λ key h. absurd h }
-
 module _ {place : ℕ} {bytes words : List ℕ} {end : ℕ} {rest : List ℕ} (s : Sound place bytes words end rest) where
   pub sound_more : {item : Attribute} {next : List ℕ} → First end rest item next → (Has item.key s.items → ⊥)
       → (words' : List ℕ) → Marked words' (key_number item.key) → ((n : ℕ) → Marked words n → Marked words' n) → Sound place bytes words' (past item) next
@@ -34,12 +29,6 @@ module _ {place : ℕ} {bytes words : List ℕ} {end : ℕ} {rest : List ℕ} (s
         noted = λ key h.
             ⊎_elim (λ old. kept (key_number key) (s.noted key old)) (λ e. subst (λ k. Marked words' (key_number k)) e marked) (has_push key s.items item h);
       }
-
-  pub sound_all : All white rest → WellFormed place bytes s.items
-  sound_all blank = record { end = end; rest = rest; front = s.front; blank = blank; distinct = s.distinct }
-
-  pub sound_fault : (fault : Fault) → Faulty end rest fault → FirstFault place bytes fault
-  sound_fault fault faulty = record { items = s.items; end = end; rest = rest; front = s.front; distinct = s.distinct; faulty = inl faulty }
 
   pub sound_repeated : {item : Attribute} {next : List ℕ} → First end rest item next → Has item.key s.items
       → FirstFault place bytes (record { flaw = Repeated; place = item.key_place })

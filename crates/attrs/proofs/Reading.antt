@@ -1,6 +1,7 @@
 -- What the bounds that are read say of the bytes.
-use Rattle.std.proofs.Common.{◌≡◌, ℕ, ◌+◌, ◌-◌, ◌<◌, ◌≤◌, Bool, true, false, not, List, ◌∷◌, ◌++◌, length, get_or, take, drop, sym, refl, ap, ◌∙◌, subst, arith}
-use Rattle.std.proofs.lemmas.List.{drop_more, drop_all, take_rest, length-take, length-drop, length-append}
+use Rattle.std.proofs.Common.{◌≡◌, ℕ, ◌+◌, ◌-◌, ◌<◌, ◌≤◌, true, false, not, List, ◌∷◌, ◌++◌, length, get_or, take, drop, sym, ap, ◌∙◌, subst, arith}
+use Rattle.std.proofs.lemmas.Bool.{not_from_false, false_from_ne_true}
+use Rattle.std.proofs.lemmas.List.{drop_more, take_rest, length-take, length-drop, length-append}
 use Rattle.attrs.specs.Bytes.{white, quote, key_byte, except, All, Begins, Run}
 use Rattle.attrs.specs.Grammar.{Keyed, Quoted, Apart, Indented, First}
 use Rattle.attrs.specs.Flaws.{Unquoted, Unclosed, ValueFlaw, ItemFlaw, Faulty}
@@ -93,29 +94,13 @@ module _ (xs : List ℕ) (from opening : ℕ) (gap : Run white xs from opening) 
         }
 
 -- after the closing quote
-pub apart_at_end : (xs : List ℕ) (at : ℕ) → length xs ≤ at → Apart (drop at xs)
-apart_at_end xs at past = subst Apart (sym (drop_all at xs past)) tt
-
-pub apart_by_space : (xs : List ℕ) (at : ℕ) → at < length xs → white (get_or xs at 0) ≡ true → Apart (drop at xs)
-apart_by_space xs at inside space = subst Apart (sym (drop_more xs at 0 inside)) space
-
 pub dark_there : (xs : List ℕ) (at : ℕ) → at < length xs → white (get_or xs at 0) ≡ false → Begins (λ b. not (white b)) (drop at xs)
 dark_there xs at inside dark = subst (Begins (λ b. not (white b))) (sym (drop_more xs at 0 inside)) (ap not dark)
 
 -- ---- the first thing in a text from a place on
 
-pub blank_past : (xs : List ℕ) (at : ℕ) → length xs ≤ at → All white (drop at xs)
-blank_past xs at past = subst (All white) (sym (drop_all at xs past)) tt
-
 pub blank : (xs : List ℕ) (from to : ℕ) → Run white xs from to → to ≡ length xs → All white (drop from xs)
 blank xs from to space at_end = subst (All white) (ap (λ n. take (n - from) (drop from xs)) at_end ∙ take_rest xs from) space.run
-
-dark_not_white : (b : ℕ) → (white b ≡ true → ⊥) → not (white b) ≡ true
-dark_not_white b h = go (white b) h
-  where
-    go : (w : Bool) → (w ≡ true → ⊥) → not w ≡ true
-    go true h = absurd (h refl)
-    go false h = refl
 
 pub indented : (xs : List ℕ) (from to : ℕ) → Run white xs from to → to < length xs → Indented (drop from xs) (take (to - from) (drop from xs)) (drop to xs)
 indented xs from to space inside =
@@ -124,7 +109,7 @@ indented xs from to space inside =
       spelt = split xs from to space.low;
       dark =
           subst (Begins (λ b. not (white b))) (sym (drop_more xs to 0 inside))
-          (dark_not_white (get_or xs to 0) (λ h. space.stop (subst (Begins white) (sym (drop_more xs to 0 inside)) h)));
+          (not_from_false (white (get_or xs to 0)) (false_from_ne_true (white (get_or xs to 0)) (λ h. space.stop (subst (Begins white) (sym (drop_more xs to 0 inside)) h))));
     }
 
 long : (xs : List ℕ) (from to : ℕ) → from ≤ to → to ≤ length xs → length (take (to - from) (drop from xs)) ≡ to - from

@@ -1,5 +1,6 @@
 -- Parts of a list whose bytes all pass a test.
 use Rattle.std.proofs.Common.{◌≡◌, ℕ, zero, suc, ◌+◌, ◌-◌, ◌<◌, ◌≤◌, Bool, Option, Some, None, true, false, List, [], ◌∷◌, ◌++◌, length, get_or, take, drop, sym, ap, ◌∙◌, subst, arith}
+use Rattle.std.proofs.lemmas.Bool.{true≢false}
 use Rattle.std.proofs.lemmas.List.{get_or-drop, length-drop, take-append-drop, drop-drop}
 use Rattle.std.specs.Option.{MatchOption}
 use Rattle.std.specs.List.{AllWithin, HoldsAt}
@@ -10,9 +11,7 @@ pub stops : (p : ℕ → Bool) (xs : List ℕ) (at : ℕ) → (at < length xs �
 stops p [] zero fails begins = begins
 stops p [] (suc at) fails begins = begins
 stops p (x ∷ xs) zero fails begins =
-    let clash : true ≡ false = sym begins ∙ fails (omega arith) in
-    let z : ◌≡◌ {A = ℕ} 0 1 = cc in
-    omega arith
+    true≢false (sym begins ∙ fails (omega arith))
 stops p (x ∷ xs) (suc at) fails begins = stops p xs at (λ inside. fails (omega arith)) begins
 
 -- a list from one index on is a part of it, and what follows

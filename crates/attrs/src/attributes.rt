@@ -11,6 +11,7 @@ use crate::seen::{key_number, note};
 
 /// The attribute text of an element, or what is left of it: the text that it is a part of, up to
 /// its end, and the place of its first byte.
+// No `impl Model` with what is left as its value: a `Copy` struct with a lifetime can have none.
 #[derive(Clone, Copy)]
 pub struct Attributes<'t> {
     text: &'t [u8],
@@ -22,12 +23,9 @@ impl<'t> Attributes<'t> {
     pub fn part(text: &'t [u8], place: usize, count: usize) -> Option<Attributes<'t>>
         ensures { options.MatchOption result (length text.now < place + count) (λ a. (place + count ≤ length text.now) × (left a ≡ take count (drop place text.now)) × (a.place ≡ place)) }
     {
-        if place > text.len() || count > text.len() - place {
-            return None;
-        }
-        let end = place + count;
+        let end = place.checked_add(count)?;
         Some(Attributes {
-            text: &text[0..end],
+            text: text.get(..end)?,
             place,
         })
     }
@@ -100,7 +98,8 @@ fn repeats(attributes: &Attributes<'_>, item: &Item<'_>) -> bool
     matches!(attributes.find(item.key), Some(first) if first.key_place < item.key_place)
 }
 
-/// Checks all items, with so many words of memory for a filter of keys.
+/// Checks all items, with so many words of memory for a filter of keys; they are borrowed as a slice,
+/// so there may not be too many.
 fn check_with<const WORDS: usize>(attributes: &Attributes<'_>) -> Result<(), Fault>
     requires some { 0 < WORDS }
     requires few { WORDS < 2 ^ 32 }
