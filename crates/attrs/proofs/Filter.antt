@@ -1,27 +1,16 @@
 -- Bits that are set stay set.
-use Rattle.std.proofs.Common.{◌≡◌, ℕ, ◌+◌, ◌*◌, ◌/◌, ◌%◌, ◌<◌, max, List, length, get_or, set, sym, refl, ap, ◌∙◌, subst, inl, inr, arith}
-use lib.Arith.{bin_ind}
-use lib.Bits.{bit_or, or_step, or_comm, or_self}
+use Rattle.std.proofs.Common.{◌≡◌, ℕ, ◌<◌, List, length, get_or, set, bit_or, sym, ap, ◌∙◌, subst, inl, inr, arith}
+use Rattle.std.specs.Int.Bits.{or_self}
+use Rattle.std.proofs.lemmas.Nat.{or_comm}
+use Rattle.std.proofs.lemmas.Nat.Bits.{bit_at_or, same_from_bits}
 use Rattle.std.proofs.lemmas.List.{length-set, get_or-set_same, get_or-set_other}
 use Rattle.std.proofs.lemmas.Bool.Decides.{eqb_tells}
 use Rattle.attrs.specs.Seen.{bits_of, word_of, Marked}
 
--- the last bit, and the bits above it
-last_or : (a b : ℕ) → bit_or a b % 2 ≡ max (a % 2) (b % 2)
-last_or a b = omega (arith, or_step a b)
-
-half_or : (a b : ℕ) → bit_or a b / 2 ≡ bit_or (a / 2) (b / 2)
-half_or a b = omega (arith, or_step a b)
-
 or_assoc : (a b c : ℕ) → bit_or (bit_or a b) c ≡ bit_or a (bit_or b c)
-or_assoc =
-    bin_ind (λ (a : ℕ). (b c : ℕ) → bit_or (bit_or a b) c ≡ bit_or a (bit_or b c)) (λ b c. refl)
-    (λ a above b c.
-    let one : bit_or (bit_or a b) c ≡ bit_or (bit_or (a / 2) (b / 2)) (c / 2) * 2 + max (max (a % 2) (b % 2)) (c % 2) =
-    or_step (bit_or a b) c ∙ (λ i. bit_or (half_or a b i) (c / 2) * 2 + max (last_or a b i) (c % 2)) in
-    let other : bit_or a (bit_or b c) ≡ bit_or (a / 2) (bit_or (b / 2) (c / 2)) * 2 + max (a % 2) (max (b % 2) (c % 2)) =
-    or_step a (bit_or b c) ∙ (λ i. bit_or (a / 2) (half_or b c i) * 2 + max (a % 2) (last_or b c i)) in
-    omega (arith, one, other, above (b / 2) (c / 2)))
+or_assoc a b c =
+    same_from_bits (bit_or (bit_or a b) c) (bit_or a (bit_or b c))
+    (λ i. omega (arith, bit_at_or (bit_or a b) c i, bit_at_or a b i, bit_at_or a (bit_or b c) i, bit_at_or b c i))
 
 or_again : (w m : ℕ) → bit_or (bit_or w m) m ≡ bit_or w m
 or_again w m = or_assoc w m m ∙ ap (bit_or w) (or_self m)

@@ -1,5 +1,5 @@
 -- Look-up of a key, item by item.
-use Rattle.std.proofs.Common.{◌≡◌, ℕ, ◌<◌, ◌≤◌, ◌⊎◌, List, [], ◌∷◌, ◌++◌, length, drop, sym, refl, ap, ◌∙◌, subst, inl, inr, ⊎_elim, arith}
+use Rattle.std.proofs.Common.{◌≡◌, ℕ, ◌<◌, ◌≤◌, ◌⊎◌, List, [], ◌∷◌, ◌++◌, length, drop, sym, ap, ◌∙◌, subst, inl, inr, ⊎_elim, arith}
 use Rattle.std.proofs.lemmas.List.{length-drop}
 use Rattle.attrs.specs.Bytes.{white, All}
 use Rattle.attrs.specs.Grammar.{Attribute, First, Front, Has, WellFormed, past}
@@ -13,9 +13,6 @@ pub record Passed (place : ℕ) (bytes key : List ℕ) (end : ℕ) (rest : List 
   pub front : Front place bytes items end rest
   pub none : Has key items → ⊥
 
-pub passed_none : (place : ℕ) (bytes key : List ℕ) → Passed place bytes key place bytes
-passed_none place bytes key = record { items = []; front = (refl, refl); none = λ h. h }
-
 pub passed_more : {place : ℕ} {bytes key : List ℕ} {end : ℕ} {rest : List ℕ} {item : Attribute} {next : List ℕ} → Passed place bytes key end rest → First end rest item next
     → (item.key ≡ key → ⊥) → Passed place bytes key (past item) next
 passed_more {place} {bytes} {key} {end} {rest} {item} {next} p x other =
@@ -24,14 +21,6 @@ passed_more {place} {bytes} {key} {end} {rest} {item} {next} p x other =
       front = front_push place bytes p.items end rest item next p.front x;
       none = λ h. ⊎_elim p.none other (has_push key p.items item h);
     }
-
-pub found : {place : ℕ} {bytes key : List ℕ} {end : ℕ} {rest : List ℕ} {item : Attribute} {next : List ℕ} → Passed place bytes key end rest → First end rest item next
-    → item.key ≡ key → FoundAt place bytes key item
-found {end = end} {rest = rest} {next = next} p x is =
-    record { earlier = p.items; end = end; rest = rest; next = next; front = p.front; new = p.none; first = x; key_is = is }
-
-pub not_found : {place : ℕ} {bytes key : List ℕ} {end : ℕ} {rest : List ℕ} → Passed place bytes key end rest → Ended end rest → NotFound place bytes key
-not_found {end = end} {rest = rest} p ended = record { items = p.items; end = end; rest = rest; front = p.front; ended = ended; none = p.none }
 
 -- an item takes bytes, and there are no more than the text has
 pub first_inside : (text : List ℕ) (place : ℕ) (item : Attribute) (rest : List ℕ) → First place (drop place text) item rest → (place < past item) × (past item ≤ length text) × (place < length text)

@@ -1,11 +1,8 @@
 -- Attribute text can be taken apart in one way only.
-use Rattle.std.proofs.Common.{◌≡◌, ℕ, Bool, true, false, not, ◌||◌, eqb, ◌⊎◌, List, [], ◌∷◌, ◌++◌, sym, refl, ap, ◌∙◌, subst, inl, inr, arith}
-use Rattle.std.proofs.lemmas.Bool.Decides.{eqb_tells}
+use Rattle.std.proofs.Common.{◌≡◌, ℕ, Bool, true, false, not, ◌||◌, eqb, List, [], ◌∷◌, ◌++◌, sym, refl, ap, ◌∙◌, subst, inl, inr}
+use Rattle.std.proofs.lemmas.Bool.{true≢false, eqb-true, eq-eqb, or_cases, not-false, false_from_ne_true}
 use Rattle.attrs.specs.Bytes.{white, quote, key_byte, except, All, Begins}
 use Rattle.attrs.specs.Grammar.{Keyed, Quoted}
-
-pub never : {X : Type 0} → true ≡ false → X
-never e = let z : ◌≡◌ {A = ℕ} 0 1 = cc in absurd (omega arith)
 
 -- The longest front whose bytes pass a test is one.
 pub munch : (p : ℕ → Bool) (xs xs' ys ys' : List ℕ) → All p xs → All p xs' → (Begins p ys → ⊥) → (Begins p ys' → ⊥)
@@ -25,46 +22,32 @@ head_same x y xs ys e = (cc, cc)
 -- ---- kinds of bytes that exclude one another
 
 white_no_key : (b : ℕ) → white b ≡ true → key_byte b ≡ true → ⊥
-white_no_key b w k = never (sym k ∙ ap (λ x. not (x || (quote b || eqb b 61))) w)
-
-or_right : (x : Bool) → (x || true) ≡ true
-or_right true = refl
-or_right false = refl
-
-equals_by : (b c : ℕ) → eqb b c ≡ true → b ≡ c
-equals_by b c e = elim (eqb_tells b c) [ inl y ↦ y.1 | inr n ↦ never (sym e ∙ n.0) ]
-
-or_cases : (x y : Bool) → (x || y) ≡ true → (x ≡ true) ⊎ (y ≡ true)
-or_cases true y e = inl refl
-or_cases false y e = inr e
+white_no_key b w k = true≢false (sym k ∙ ap (λ x. not (x || (quote b || eqb b 61))) w)
 
 -- a quote is no white space
 pub quote_dark : (b : ℕ) → quote b ≡ true → white b ≡ false
 quote_dark b q =
     elim (or_cases (eqb b 34) (eqb b 39) q) [
-      | inl e ↦ ap white (equals_by b 34 e)
-      | inr e ↦ ap white (equals_by b 39 e)
+      | inl e ↦ ap white (eqb-true b 34 e)
+      | inr e ↦ ap white (eqb-true b 39 e)
     ]
 
 pub gap_no_key : (gap after : List ℕ) → All white gap → Begins key_byte (gap ++ (61 ∷ after)) → ⊥
-gap_no_key [] after a b = never (sym b)
+gap_no_key [] after a b = true≢false (sym b)
 gap_no_key (x ∷ gap) after a b = white_no_key x a.0 b
 
 pub equals_dark : (after : List ℕ) → Begins white (61 ∷ after) → ⊥
-equals_dark after b = never (sym b)
+equals_dark after b = true≢false (sym b)
 
 pub quote_begins_dark : (mark : ℕ) (rest : List ℕ) → quote mark ≡ true → Begins white (mark ∷ rest) → ⊥
-quote_begins_dark mark rest q b = never (sym b ∙ quote_dark mark q)
-
-eqb_refl : (b : ℕ) → eqb b b ≡ true
-eqb_refl b = elim (eqb_tells b b) [ inl y ↦ y.0 | inr n ↦ absurd (n.1 refl) ]
+quote_begins_dark mark rest q b = true≢false (sym b ∙ quote_dark mark q)
 
 pub mark_excepted : (mark : ℕ) (rest : List ℕ) → Begins (except mark) (mark ∷ rest) → ⊥
-mark_excepted mark rest b = never (sym b ∙ ap not (eqb_refl mark))
+mark_excepted mark rest b = true≢false (sym b ∙ ap not (eq-eqb mark mark refl))
 
 -- the byte that ends a run of all bytes but one is that one
 pub excepted : (mark b : ℕ) → (except mark b ≡ true → ⊥) → b ≡ mark
-excepted mark b h = elim (eqb_tells b mark) [ inl y ↦ y.1 | inr n ↦ absurd (h (ap not n.0)) ]
+excepted mark b h = eqb-true b mark (not-false (eqb b mark) (false_from_ne_true (except mark b) h))
 
 -- ---- a key and its equals sign
 

@@ -1,5 +1,6 @@
 -- What stands first in attribute text is one thing, and so its items and its first fault are.
 use Rattle.std.proofs.Common.{◌≡◌, ℕ, ◌+◌, ◌<◌, ◌≤◌, Bool, true, not, List, [], ◌∷◌, ◌++◌, length, sym, refl, ap, ◌∙◌, subst, arith}
+use Rattle.std.proofs.lemmas.Bool.{true≢false}
 use Rattle.std.proofs.lemmas.List.{length-append}
 use Rattle.attrs.specs.Bytes.{white, quote, except, All, Begins}
 use Rattle.attrs.specs.Grammar.{Attribute, Keyed, Quoted, Apart, Indented, First, past}
@@ -8,13 +9,13 @@ use Rattle.attrs.specs.Items.{OneFirst}
 use Rattle.attrs.specs.declared.fault.Flaw.{Flaw}
 use Rattle.attrs.specs.declared.fault.Flaw.TheVariants.{BadKey, NoSpace, NoQuote, NotClosed, Repeated}
 use Rattle.attrs.specs.declared.fault.Fault.{Fault}
-use Rattle.attrs.proofs.Splits.{munch, never, keyed_one, quoted_one, quote_begins_dark, opened, mark_excepted}
+use Rattle.attrs.proofs.Splits.{munch, keyed_one, quoted_one, quote_begins_dark, opened, mark_excepted}
 
 -- ---- white space in front
 
 dark_begins : (body : List ℕ) → Begins (λ b. not (white b)) body → Begins white body → ⊥
 dark_begins [] d w = d
-dark_begins (b ∷ bs) d w = never (sym d ∙ ap not w)
+dark_begins (b ∷ bs) d w = true≢false (sym d ∙ ap not w)
 
 indented_one : {bytes space body space' body' : List ℕ} → Indented bytes space body → Indented bytes space' body' → (space ≡ space') × (body ≡ body')
 indented_one {bytes} {space} {body} {space'} {body'} i i' =
@@ -26,7 +27,7 @@ all_later p (x ∷ xs) ys a = all_later p xs ys a.1
 
 all_begins : (ys : List ℕ) → All white ys → Begins (λ b. not (white b)) ys → ⊥
 all_begins [] a d = d
-all_begins (y ∷ ys) a d = never (sym d ∙ ap not a.0)
+all_begins (y ∷ ys) a d = true≢false (sym d ∙ ap not a.0)
 
 -- where there is but white space, nothing stands first
 blank_not_indented : {bytes space body : List ℕ} → All white bytes → Indented bytes space body → ⊥
@@ -38,7 +39,7 @@ all_here p (x ∷ xs) y ys a = all_here p xs y ys a.1
 
 apart_dark : (rest : List ℕ) → Apart rest → Begins (λ b. not (white b)) rest → ⊥
 apart_dark [] a d = d
-apart_dark (b ∷ bs) a d = never (sym d ∙ ap not a)
+apart_dark (b ∷ bs) a d = true≢false (sym d ∙ ap not a)
 
 -- ---- after the equals sign there is one thing
 
@@ -114,23 +115,11 @@ item_flaw_one bytes Repeated g x y = absurd x
 
 -- ---- what stands first
 
-attribute : List ℕ → List ℕ → ℕ → ℕ → Attribute
-attribute key value key_place value_place = record { key = key; value = value; key_place = key_place; value_place = value_place }
-
 same_attribute : (i j : Attribute) → i.key ≡ j.key → i.value ≡ j.value → i.key_place ≡ j.key_place → i.value_place ≡ j.value_place → i ≡ j
-unfolding attribute
-same_attribute i j a b c d =
-    ap (λ x. attribute x i.value i.key_place i.value_place) a
-    ∙ ap (λ x. attribute j.key x i.key_place i.value_place) b
-    ∙ ap (λ x. attribute j.key j.value x i.value_place) c
-    ∙ ap (λ x. attribute j.key j.value j.key_place x) d
-
-fault : Flaw → ℕ → Fault
-fault flaw place = record { flaw = flaw; place = place }
+same_attribute i j a b c d = λ x. record { key = a x; value = b x; key_place = c x; value_place = d x }
 
 pub same_fault : (f g : Fault) → f.flaw ≡ g.flaw → f.place ≡ g.place → f ≡ g
-unfolding fault
-same_fault f g a b = ap (λ x. fault x f.place) a ∙ ap (λ x. fault g.flaw x) b
+same_fault f g a b = λ x. record { flaw = a x; place = b x }
 
 pub faulty_one : {place : ℕ} {bytes : List ℕ} {f g : Fault} → Faulty place bytes f → Faulty place bytes g → f ≡ g
 faulty_one {place} {bytes} {f} {g} x y =

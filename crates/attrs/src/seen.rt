@@ -6,13 +6,11 @@ ghost use Rattle.attrs.specs.Seen.{key_number, bit, bits_of, Marked};
 pub(crate) fn key_number(key: &[u8]) -> u64
     ensures { result ≡ key_number key.now }
 {
-    let mut number: u64 = 1;
-    for byte in key {
-        number = number
-            .wrapping_add(*byte as u64)
-            .wrapping_mul(0x9e37_79b9_7f4a_7c15);
-    }
-    number
+    key.iter().fold(1, |number: u64, byte| {
+        number
+            .wrapping_add(u64::from(*byte))
+            .wrapping_mul(0x9e37_79b9_7f4a_7c15)
+    })
 }
 
 /// A word with one bit.
@@ -26,11 +24,11 @@ fn one_bit(index: u64) -> u64
 fn bits_of(number: u64) -> u64
     ensures { result ≡ bits_of number }
 {
-    one_bit(number / 0x400_0000_0000_0000)
-        | one_bit(number / 0x10_0000_0000_0000)
-        | one_bit(number / 0x4000_0000_0000)
-        | one_bit(number / 0x100_0000_0000)
-        | one_bit(number / 0x4_0000_0000)
+    one_bit(number >> 58)
+        | one_bit(number >> 52)
+        | one_bit(number >> 46)
+        | one_bit(number >> 40)
+        | one_bit(number >> 34)
 }
 
 /// Sets the bits of a number, and answers whether they were set.
@@ -40,7 +38,7 @@ pub(crate) fn note(words: &mut [u64], number: u64) -> bool
     ensures marked { Marked words.new number }
     ensures kept { (other : ℕ) → Marked words.old other → Marked words.new other }
 {
-    let index = (number / 0x8_0000 % words.len() as u64) as usize;
+    let index = ((number >> 19) % words.len() as u64) as usize;
     let word = words[index];
     let more = word | bits_of(number);
     words[index] = more;
