@@ -10,7 +10,6 @@ fn with_digit(number: u64, byte: u8) -> Option<u64>
     requires { (48 ≤ byte) × (byte ≤ 57) }
     ensures { result ≡ below (2 ^ 64) (number * 10 + (byte - 48)) }
 {
-    // In `references`, on which this crate does not stand, one of any radix stays at a bound instead.
     number.checked_mul(10)?.checked_add(u64::from(byte - b'0'))
 }
 
