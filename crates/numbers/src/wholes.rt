@@ -11,5 +11,5 @@ pub fn whole<N: Whole>(text: &[u8]) -> Option<N>
     ensures value { option_map N.Whole.amount result ≡ whole_number N.Whole.limit text.now }
     ensures positional { Positional }
 {
-    N::narrow(number(text)?)
+    N::try_from(number(text)?).ok()
 }
