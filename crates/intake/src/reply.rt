@@ -2,7 +2,7 @@
 use crate::style::Style;
 use formats::CellFormat;
 use replicas::Answer;
-use runs::{Mark, RunTable};
+use runs::{Mark, Run, RunTable};
 use sheet::{Sheet, Styled, Xf};
 use std::fmt;
 
@@ -31,12 +31,8 @@ fn write_runs<W: fmt::Write, M: Mark + fmt::Display>(
     f: &mut fmt::Formatter<W>,
     runs: &RunTable<'_, M>,
 ) -> fmt::Result {
-    for index in 0..runs.count() {
-        if let Some(run) = runs.run(index) {
-            let mark = run.mark;
-            let end = run.end;
-            write!(f, " {mark}:{end}")?;
-        }
+    for Run { mark, end } in runs.iter() {
+        write!(f, " {mark}:{end}")?;
     }
     Ok(())
 }
