@@ -1,6 +1,5 @@
 -- The box around the words of a list of cells, cell by cell.
-use Rattle.std.proofs.Common.{◌≡◌, ℕ, ◌<◌, ◌≤◌, min, max, true, ◌&&◌, ◌||◌, eqb, ◌⊎◌, List, [], ◌∷◌, ◌++◌, is_some, inl, inr, ⊎_elim, arith}
-use Rattle.std.proofs.lemmas.Bool.{cases_lt}
+use Rattle.std.proofs.Common.{◌≡◌, ℕ, min, max, true, ◌&&◌, ◌||◌, eqb, ◌⊎◌, List, [], ◌∷◌, ◌++◌, is_some, ⊎_elim, arith}
 use Rattle.std.proofs.lemmas.Bool.Decides.{nat_tests}
 use Rattle.cells.specs.declared.cell.Cell.{Cell}
 use Rattle.cells.specs.Area.{Area, grown}
@@ -18,10 +17,10 @@ pushed [] y r c = grind arith
 pushed (x ∷ xs) y r c = grind (arith, pushed xs y r c)
 
 min_either : (a b : ℕ) → (min a b ≡ a) ⊎ (min a b ≡ b)
-min_either a b = ⊎_elim (λ (h : a < b). inl (omega arith)) (λ (h : b ≤ a). inr (omega arith)) (cases_lt a b)
+min_either a b = grind arith
 
 max_either : (a b : ℕ) → (max a b ≡ a) ⊎ (max a b ≡ b)
-max_either a b = ⊎_elim (λ (h : a < b). inr (omega arith)) (λ (h : b ≤ a). inl (omega arith)) (cases_lt a b)
+max_either a b = grind arith
 
 -- the box of one cell
 pub least_first : (x : Cell) → Least (words_of (x ∷ [])) (record { top = row x; left = column x; bottom = row x; right = column x })

@@ -1,7 +1,8 @@
 -- Cells in order, read place by place.
-use Rattle.std.proofs.Common.{◌≡◌, ℕ, ◌+◌, ◌-◌, ◌<◌, ◌≤◌, List, length, get_or, set, sym, ap, ◌∙◌, ⊎_elim, arith}
+use Rattle.std.proofs.Common.{◌≡◌, ℕ, ◌+◌, ◌-◌, ◌<◌, ◌≤◌, List, length, get_or, set, sym, ap, ◌∙◌, subst, arith}
 use Rattle.std.proofs.lemmas.List.{get_or-map, map-set, set-get_or, length-set}
-use Rattle.std.proofs.lemmas.Bool.{cases_lt, cases_order}
+use Rattle.std.specs.List.{insert, remove}
+use Rattle.std.proofs.lemmas.List.Edits.{length-insert, get_or-insert_below, get_or-insert_at, get_or-insert_above, length-remove, get_or-remove_below, get_or-remove_above}
 use Rattle.cells.specs.declared.cell.Cell.{Cell}
 use Rattle.cells.specs.Words.{number, numbers, Ordered}
 
@@ -28,54 +29,38 @@ ordered_set cells i x d within e o j k h l =
     let below : k < length cells = simp length-set at l in
     omega (arith, o j k h below, ap (λ ns. get_or ns j 0) same, ap (λ ns. get_or ns k 0) same)
 
-module _ (xs ys : List Cell) (i : ℕ) (o : Ordered xs) where
+module _ (xs : List Cell) (i : ℕ) (o : Ordered xs) where
   -- one more cell, between those before it and those after
-  pub ordered_inserted : (x : Cell) → length ys ≡ length xs + 1 → get_or ys i x ≡ x → ((k : ℕ) → k < i → get_or ys k x ≡ get_or xs k x) → ((k : ℕ) → i < k → get_or ys k x ≡ get_or xs (k - 1) x)
-      → ((k : ℕ) → k < i → number (get_or xs k x).at < number x.at) → ((k : ℕ) → i ≤ k → k < length xs → number x.at < number (get_or xs k x).at) → i ≤ length xs → Ordered ys
-  ordered_inserted x long here before after less more within = ordered_from ys x rises
+  pub ordered_inserted : (x : Cell) → i ≤ length xs → ((k : ℕ) (d : Cell) → k < i → number (get_or xs k d).at < number x.at) → ((k : ℕ) (d : Cell) → i ≤ k → k < length xs → number x.at < number (get_or xs k d).at) → Ordered (insert xs i x)
+  ordered_inserted x within less more = ordered_from (insert xs i x) x rises
     where
-      at_before : (k : ℕ) → k < i → number (get_or ys k x).at ≡ number (get_or xs k x).at
-      at_before k h = ap (λ (y : Cell). number y.at) (before k h)
+      below : (k : ℕ) → k < i → number (get_or (insert xs i x) k x).at ≡ number (get_or xs k x).at
+      below k h = ap (λ (y : Cell). number y.at) (get_or-insert_below xs i x x k h within)
 
-      at_after : (k : ℕ) → i < k → number (get_or ys k x).at ≡ number (get_or xs (k - 1) x).at
-      at_after k h = ap (λ (y : Cell). number y.at) (after k h)
+      here : (k : ℕ) → k ≡ i → number (get_or (insert xs i x) k x).at ≡ number x.at
+      here k e = rw e (ap (λ (y : Cell). number y.at) (get_or-insert_at xs i x x within))
 
-      at_here : (k : ℕ) → k ≡ i → number (get_or ys k x).at ≡ number x.at
-      at_here k e = ap (λ j. number (get_or ys j x).at) e ∙ ap (λ (y : Cell). number y.at) here
+      above : (k : ℕ) → i < k → number (get_or (insert xs i x) k x).at ≡ number (get_or xs (k - 1) x).at
+      above k h =
+          subst (λ n. number (get_or (insert xs i x) n x).at ≡ number (get_or xs (k - 1) x).at) {x = k - 1 + 1} (omega arith)
+          (ap (λ (y : Cell). number y.at) (get_or-insert_above xs i x x (k - 1) (omega arith) within))
 
-      rises : (j k : ℕ) → j < k → k < length ys → number (get_or ys j x).at < number (get_or ys k x).at
-      rises j k h l = ⊎_elim
-          (λ (j_here : j ≡ i). let m = more (k - 1) (omega arith) (omega arith) in omega (arith, at_here j j_here, at_after k (omega arith), m))
-          (⊎_elim
-          (λ (j_before : j < i). ⊎_elim
-          (λ (k_here : k ≡ i). let m = less j j_before in omega (arith, at_before j j_before, at_here k k_here, m))
-          (⊎_elim
-          (λ (k_before : k < i). let m = ordered_at xs o j k x h (omega arith) in omega (arith, at_before j j_before, at_before k k_before, m))
-          (λ (k_after : i < k).
-          let m = less j j_before in
-          let n = more (k - 1) (omega arith) (omega arith) in
-          omega (arith, at_before j j_before, at_after k k_after, m, n)))
-          (cases_order k i))
-          (λ (j_after : i < j).
-          let m = ordered_at xs o (j - 1) (k - 1) x (omega arith) (omega arith) in
-          omega (arith, at_after j j_after, at_after k (omega arith), m)))
-          (cases_order j i)
+      rises : (j k : ℕ) → j < k → k < length (insert xs i x) → number (get_or (insert xs i x) j x).at < number (get_or (insert xs i x) k x).at
+      rises j k h l =
+          let long = length-insert xs i x within in
+          grind (arith, below j, here j, above j, below k, here k, above k, ordered_at xs o j k x, ordered_at xs o j (k - 1) x, ordered_at xs o (j - 1) (k - 1) x, less j x, more (k - 1) x)
 
   -- a cell less
-  pub ordered_removed : (d : Cell) → length ys + 1 ≡ length xs → ((k : ℕ) → k < i → get_or ys k d ≡ get_or xs k d) → ((k : ℕ) → i ≤ k → get_or ys k d ≡ get_or xs (k + 1) d) → Ordered ys
-  ordered_removed d long before after = ordered_from ys d rises
+  pub ordered_removed : (d : Cell) → i < length xs → Ordered (remove xs i)
+  ordered_removed d within = ordered_from (remove xs i) d rises
     where
-      at_before : (k : ℕ) → k < i → number (get_or ys k d).at ≡ number (get_or xs k d).at
-      at_before k h = ap (λ (y : Cell). number y.at) (before k h)
+      below : (k : ℕ) → k < i → number (get_or (remove xs i) k d).at ≡ number (get_or xs k d).at
+      below k h = ap (λ (y : Cell). number y.at) (get_or-remove_below xs i d k h within)
 
-      at_after : (k : ℕ) → i ≤ k → number (get_or ys k d).at ≡ number (get_or xs (k + 1) d).at
-      at_after k h = ap (λ (y : Cell). number y.at) (after k h)
+      above : (k : ℕ) → i ≤ k → number (get_or (remove xs i) k d).at ≡ number (get_or xs (k + 1) d).at
+      above k h = ap (λ (y : Cell). number y.at) (get_or-remove_above xs i d k h within)
 
-      rises : (j k : ℕ) → j < k → k < length ys → number (get_or ys j d).at < number (get_or ys k d).at
-      rises j k h l = ⊎_elim
-          (λ (j_before : j < i). ⊎_elim
-          (λ (k_before : k < i). let m = ordered_at xs o j k d h (omega arith) in omega (arith, at_before j j_before, at_before k k_before, m))
-          (λ (k_after : i ≤ k). let m = ordered_at xs o j (k + 1) d (omega arith) (omega arith) in omega (arith, at_before j j_before, at_after k k_after, m))
-          (cases_lt k i))
-          (λ (j_after : i ≤ j). let m = ordered_at xs o (j + 1) (k + 1) d (omega arith) (omega arith) in omega (arith, at_after j j_after, at_after k (omega arith), m))
-          (cases_lt j i)
+      rises : (j k : ℕ) → j < k → k < length (remove xs i) → number (get_or (remove xs i) j d).at < number (get_or (remove xs i) k d).at
+      rises j k h l =
+          let long = length-remove xs i within in
+          grind (arith, below j, above j, below k, above k, ordered_at xs o j k d, ordered_at xs o j (k + 1) d, ordered_at xs o (j + 1) (k + 1) d)

@@ -1,5 +1,5 @@
 -- Each call takes a sheet that stands for a history to one that stands for the history with the call in front.
-use Rattle.std.proofs.Common.{◌≡◌, ℕ, ◌+◌, ◌<◌, ◌≤◌, min, Bool, true, false, List, [], ◌∷◌, ◌++◌, reverse, length, get_or, take, is_ok, Some, None, vec_items, vec_len, MatchBool, Option, Result, sym, refl, ap, ◌∙◌, subst, ap₂, ⊎_elim, arith}
+use Rattle.std.proofs.Common.{◌≡◌, ℕ, ◌+◌, ◌<◌, ◌≤◌, min, Bool, true, false, List, [], ◌∷◌, ◌++◌, reverse, length, get_or, take, is_ok, Some, None, vec_items, vec_len, MatchBool, Option, Result, sym, refl, ap, ◌∙◌, subst, ap₂, ⊎_elim}
 use mathlib.Core.Path.{fun_ext}
 use Rattle.std.specs.Option.{option_map}
 use Rattle.std.proofs.lemmas.List.{take_more, take_all, reverse-append}
@@ -31,12 +31,10 @@ same_words : (v w : Words) → ((r c : ℕ) → v r c ≡ w r c) → v ≡ w
 same_words v w f = fun_ext (λ r. fun_ext (λ c. f r c))
 
 when_yes : (b : Bool) (P Q : Type 0) → b ≡ true → P → MatchBool b P Q
-when_yes true P Q e p = p
-when_yes false P Q e p = absurd (let z : ◌≡◌ {A = ℕ} 0 1 = cc in omega arith)
+when_yes b P Q e p = rw e p
 
 when_no : (b : Bool) (P Q : Type 0) → b ≡ false → Q → MatchBool b P Q
-when_no true P Q e q = absurd (let z : ◌≡◌ {A = ℕ} 0 1 = cc in omega arith)
-when_no false P Q e q = q
+when_no b P Q e q = rw e q
 
 module _ {S : Type 0} (palette : List (Xf S)) (C R : ℕ) where
   -- the box and the runs belong to the words at the latest accepted pack

@@ -1,7 +1,7 @@
-use Rattle.std.proofs.Common.{◌≡◌, ℕ, ◌<◌, true, false, vec_items, vec_len, vec_capacity, sym, refl, ap, ◌∙◌, arith}
+use Rattle.std.proofs.Common.{◌≡◌, ℕ, ◌<◌, true, false, vec_len, vec_capacity, sym, refl, ap, ◌∙◌, subst, arith}
 use Rattle.std.proofs.lemmas.Bool.{or_left, or_right, or_from, lt-ltb, le-ltb, cond-true, cond-false, true≢false}
 use Rattle.cells.specs.declared.cell.Cell.{Cell}
-use Rattle.cells.specs.Words.{words_of}
+use Rattle.cells.specs.Words.{Ordered, words_of}
 use Rattle.cells.specs.Kept.{stands_at, kept}
 use Rattle.cells.proofs.Order.{ordered_set, ordered_inserted}
 use Rattle.cells.proofs.Words.{stands_found, none_absent, words_inserted, words_set}
@@ -44,17 +44,11 @@ invariant_of-self-in-Err-2 c =
     let m = c.args.self.now in
     let x : Cell = record { at = c.args.at; id = c.args.id } in
     let f = rw c.deref.ensures.value at c.in-Err.ensures in
-    let v = c.insert.new.self in
-    let long = v.ok.0 in
-    let was = m.cells.ok.0 in
     let room : vec_len m.cells < vec_capacity m.cells = let h = m.room in omega arith in
     let done = c.insert.ensures.succeeds room in
     let one_more = c.insert.ensures.len ∙ cond-true _ _ _ done in
-    let places = c.insert.ensures.by_index in
     record {
-      ordered =
-          ordered_inserted m.cells.items (vec_items v) c.in-Err.field-0 m.ordered x (omega arith) (places.0 x done) (λ k h. places.1 k x h) (λ k h. places.2 k x done h)
-          (λ k h. f.before k x h) (λ k h l. f.after k x h l) f.within;
+      ordered = subst Ordered (sym (c.insert.ensures.items ∙ cond-true _ _ _ done)) (ordered_inserted m.cells.items c.in-Err.field-0 m.ordered x f.within f.before f.after);
       few = omega arith;
       room = let same = (c.insert.ensures.in_place room).1.0 in let h = m.room in omega arith;
     }
