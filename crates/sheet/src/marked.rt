@@ -10,7 +10,8 @@ use cells::{BoundingBox, Cell};
 use formats::CellFormat;
 use runs::{MarkedBox, Placed};
 
-/// Gives each style id a mark. Positions with no cell have the mark of id 0.
+/// Gives each style id a mark. Positions with no cell have the mark of id 0. A trait and no closure: the
+/// list of marks is stated with a function of the id, and of a closure a contract knows but a relation.
 pub trait Marking<M> {
     ghost of: { Self → ℕ → M };
 

@@ -8,7 +8,7 @@ mod packs;
 mod reads;
 
 /// What a sheet lies over: room for some cells, and for as many runs of each kind as the shortest of
-/// the other four has entries.
+/// the other four has entries. Marks and ends are lists of their own, since each may have its length.
 #[derive(Drop)]
 pub struct SheetMemory {
     pub cells: CellMemory,
