@@ -41,10 +41,9 @@ fn play<S>(sheet: &mut Sheet, palette: &[Xf<S>], calls: &[Call])
 fn agree(loader: &Sheet, floor: &Sheet) -> bool
     ensures { Decides result (SameRuns loader.now floor.now) }
 {
-    let boxes = loader.bounding_box() == floor.bounding_box();
-    let ids = loader.id_runs().same(&floor.id_runs());
-    let kinds = loader.kind_runs().same(&floor.kind_runs());
-    boxes && ids && kinds
+    loader.bounding_box() == floor.bounding_box()
+        && loader.id_runs().same(&floor.id_runs())
+        && loader.kind_runs().same(&floor.kind_runs())
 }
 
 /// Makes two sheets over one palette, the loader's and the floor's, and plays a list of calls at each.
