@@ -1,5 +1,5 @@
 //! A session: a palette and two desks.
-ghost use Rattle.std.specs.Prelude.{◌≡◌, ◌||◌, [], ◌∷◌, ◌++◌, is_ok, vec_len, IfOk, OnOk, OnErr, IsSome, IsNone, IsTrue};
+ghost use Rattle.std.specs.Prelude.{◌≡◌, ◌||◌, false, [], ◌∷◌, ◌++◌, is_ok, vec_len, IfOk, OnOk, OnErr, IsSome, IsNone, IsTrue};
 ghost use Rattle.intake.specs.Order.{InOrder};
 
 use crate::command::{Command, DeskName, Question};
@@ -20,6 +20,7 @@ pub struct Session {
     heap: Global,
     palette: Palette,
     desks: Desks,
+    // A bool: an enum of two variants would say no more than the name does.
     called: bool,
     ghost in_order: { ∥ InOrder palette.entries.items called desks ∥₁ },
 }
@@ -29,7 +30,10 @@ impl Session {
     ghost use Rattle.intake.specs.Sessions.{Made, NewDesk, Answered, Agreed, Refuses};
 
     /// A session with no xf and no sheet.
-    pub fn new(heap: Global) -> Session {
+    pub fn new(heap: Global) -> Session
+        ensures empty { (result.palette.entries.items ≡ []) × (result.desks.loader ≡ None) × (result.desks.floor ≡ None) }
+        ensures uncalled { result.called ≡ false }
+    {
         Session {
             heap,
             palette: Palette::new(heap),
