@@ -27,7 +27,7 @@ pub struct Session {
 
 impl Session {
     ghost use Rattle.intake.specs.Places.{desk_at, other_desk};
-    ghost use Rattle.intake.specs.Sessions.{Made, NewDesk, Answered, Agreed, Refuses};
+    ghost use Rattle.intake.specs.Sessions.{Made, NewDesk, Answered, Agreed, Refuses, RepliesTo};
 
     /// A session with no xf and no sheet.
     pub fn new(heap: Global) -> Session
@@ -43,7 +43,9 @@ impl Session {
     }
 
     /// Carries a command out, and answers it. Where it cannot be, nothing changes.
-    pub fn carry_out(&mut self, command: Command) -> Result<Reply<'_>, Misread> {
+    pub fn carry_out(&mut self, command: Command) -> Result<Reply<'_>, Misread>
+        ensures { IfOk result (λ reply. RepliesTo self.old command reply) }
+    {
         match command {
             Command::Open { name, room } => {
                 self.open(name, room)?;
