@@ -1,5 +1,5 @@
 -- What a session keeps.
-use Rattle.std.specs.Prelude.{◌≡◌, ◌↔◌, Bool, List, [], Some, None, Ok, Err, vec_items, Decides, Option, Result, IsErrOf, IsOkUnless, MatchOption}
+use Rattle.std.specs.Prelude.{◌≡◌, ◌↔◌, Bool, List, [], Some, None, Ok, Err, vec_items, Decides, Option, Result, IsErrOf, IsOkUnless, MatchOption, false, vec_len, IsSome}
 use Rattle.sheet.specs.declared.xf.Xf.{Xf}
 use Rattle.sheet.specs.declared.room.Room.{Room}
 use Rattle.sheet.specs.Reads.{got, kind_there}
@@ -8,11 +8,13 @@ use Rattle.replicas.specs.declared.call.Answer.{Answer}
 use Rattle.replicas.specs.Promise.{SameRuns}
 use Rattle.intake.specs.declared.style.Style.{Style}
 use Rattle.intake.specs.declared.misread.Misread.{Misread}
+use Rattle.intake.specs.declared.command.Command.{Command}
+use Rattle.intake.specs.declared.command.Command.TheVariants.{Open, AddXf, Make, Ask, Agree}
 use Rattle.intake.specs.declared.command.DeskName.{DeskName}
 use Rattle.intake.specs.declared.command.Question.{Question}
 use Rattle.intake.specs.declared.command.Question.TheVariants.{Get, Kind as AskKind, Runs as AskRuns, Walk as AskWalk}
 use Rattle.intake.specs.declared.reply.Reply.{Reply}
-use Rattle.intake.specs.declared.reply.Reply.TheVariants.{Style as StyleIs, Kind as KindIs, Runs as RunsOf, Walk as WalkOf}
+use Rattle.intake.specs.declared.reply.Reply.TheVariants.{Ready, Added, Made as MadeCall, Style as StyleIs, Kind as KindIs, Runs as RunsOf, Walk as WalkOf, Agree as AgreeIs}
 use Rattle.intake.specs.declared.desk.Desk.{Desk}
 use Rattle.intake.specs.declared.session.Session.{Session}
 use Rattle.intake.specs.Desks.{calls_of, packed_id, Recorded, SameDesk, SameRoom}
@@ -56,3 +58,12 @@ Answered palette (Some d) (AskKind row column) (KindIs kind) = kind ≡ kind_the
 Answered palette (Some d) AskRuns (RunsOf sheet) = sheet.now ≡ d.sheet
 Answered palette (Some d) AskWalk (WalkOf sheet entries) = (sheet.now ≡ d.sheet) × (entries.now ≡ palette)
 Answered palette place question reply = ⊥
+
+-- The reply is one to that command, told from the session before it.
+abbrev pub RepliesTo : Session → Command → Reply → Type 0
+RepliesTo s (Open name room) Ready = desk_at name s.desks ≡ None
+RepliesTo s (AddXf kind) (Added number) = (s.called ≡ false) × (number ≡ vec_len s.palette.entries)
+RepliesTo s (Make name call) (MadeCall answer) = IsSome (desk_at name s.desks)
+RepliesTo s (Ask name question) reply = Answered (vec_items s.palette.entries) (desk_at name s.desks) question reply
+RepliesTo s Agree (AgreeIs agree) = Agreed agree s.desks.loader s.desks.floor
+RepliesTo s command reply = ⊥

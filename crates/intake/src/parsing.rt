@@ -1,9 +1,9 @@
 //! Reading a line as a command.
-ghost use Rattle.std.specs.Prelude.{◌≡◌, ◌≢◌, ◌⊎◌, IfErr, MatchResult};
+ghost use Rattle.std.specs.Prelude.{◌≡◌, ◌≢◌, ◌⊎◌, IfErr, IfOk, MatchResult};
 ghost use Rattle.std.specs.Str.Parse.{IsNumeral};
 ghost use Rattle.formats.specs.Kinds.{kind_name};
 ghost use Rattle.formats.specs.declared.CellFormat.{CellFormat};
-ghost use Rattle.intake.specs.Words.{ReadsNumber};
+ghost use Rattle.intake.specs.Words.{ReadsNumber, CallNamed, question_word, IsAt};
 
 use crate::command::{Command, DeskName, Question};
 use crate::misread::Misread;
@@ -71,7 +71,9 @@ fn read_sheet(fields: &mut Fields<'_>) -> Result<Command, Misread> {
 }
 
 /// A put, a clear or a pack, after its word; none at another word.
-fn read_call(word: &str, fields: &mut Fields<'_>) -> Result<Option<Call>, Misread> {
+fn read_call(word: &str, fields: &mut Fields<'_>) -> Result<Option<Call>, Misread>
+    ensures { IfOk result (λ call. CallNamed word.now call) }
+{
     let call = match word {
         "put" => Call::Put {
             row: fields.number()?,
@@ -89,7 +91,9 @@ fn read_call(word: &str, fields: &mut Fields<'_>) -> Result<Option<Call>, Misrea
 }
 
 /// A question about a sheet, after its word.
-fn read_question(word: &str, fields: &mut Fields<'_>) -> Result<Question, Misread> {
+fn read_question(word: &str, fields: &mut Fields<'_>) -> Result<Question, Misread>
+    ensures { IfOk result (λ question. word.now ≡ question_word question) }
+{
     match word {
         "get" => Ok(Question::Get {
             row: fields.number()?,
@@ -106,7 +110,9 @@ fn read_question(word: &str, fields: &mut Fields<'_>) -> Result<Question, Misrea
 }
 
 /// What is asked of the sheet of a name, from the word after the name on.
-fn read_at_desk(name: DeskName, fields: &mut Fields<'_>) -> Result<Command, Misread> {
+fn read_at_desk(name: DeskName, fields: &mut Fields<'_>) -> Result<Command, Misread>
+    ensures { IfOk result (λ command. IsAt name command) }
+{
     let word = fields.word()?;
     if let Some(call) = read_call(word, fields)? {
         return Ok(Command::Make { name, call });

@@ -1,5 +1,5 @@
 //! A session: a palette and two desks.
-ghost use Rattle.std.specs.Prelude.{◌≡◌, ◌||◌, [], ◌∷◌, ◌++◌, is_ok, vec_len, IfOk, OnOk, OnErr, IsSome, IsNone, IsTrue};
+ghost use Rattle.std.specs.Prelude.{◌≡◌, ◌||◌, false, [], ◌∷◌, ◌++◌, is_ok, vec_len, IfOk, OnOk, OnErr, IsSome, IsNone, IsTrue};
 ghost use Rattle.intake.specs.Order.{InOrder};
 
 use crate::command::{Command, DeskName, Question};
@@ -20,16 +20,20 @@ pub struct Session {
     heap: Global,
     palette: Palette,
     desks: Desks,
+    // A bool: an enum of two variants would say no more than the name does.
     called: bool,
     ghost in_order: { ∥ InOrder palette.entries.items called desks ∥₁ },
 }
 
 impl Session {
     ghost use Rattle.intake.specs.Places.{desk_at, other_desk};
-    ghost use Rattle.intake.specs.Sessions.{Made, NewDesk, Answered, Agreed, Refuses};
+    ghost use Rattle.intake.specs.Sessions.{Made, NewDesk, Answered, Agreed, Refuses, RepliesTo};
 
     /// A session with no xf and no sheet.
-    pub fn new(heap: Global) -> Session {
+    pub fn new(heap: Global) -> Session
+        ensures empty { (result.palette.entries.items ≡ []) × (result.desks.loader ≡ None) × (result.desks.floor ≡ None) }
+        ensures uncalled { result.called ≡ false }
+    {
         Session {
             heap,
             palette: Palette::new(heap),
@@ -39,7 +43,9 @@ impl Session {
     }
 
     /// Carries a command out, and answers it. Where it cannot be, nothing changes.
-    pub fn carry_out(&mut self, command: Command) -> Result<Reply<'_>, Misread> {
+    pub fn carry_out(&mut self, command: Command) -> Result<Reply<'_>, Misread>
+        ensures { IfOk result (λ reply. RepliesTo self.old command reply) }
+    {
         match command {
             Command::Open { name, room } => {
                 self.open(name, room)?;
