@@ -108,6 +108,7 @@ fn check_with<const WORDS: usize>(attributes: &Attributes<'_>) -> Result<(), Fau
 }
 
 /// Checks all items, with memory for a filter of keys.
+// The words are a slice, since a check is slower by a seventh with a copy of the loop for each size.
 fn check_items(attributes: &Attributes<'_>, words: &mut [u64]) -> Result<(), Fault>
     requires { 0 < length words.old }
     ensures { Checked attributes.now.place (left attributes.now) result }
