@@ -98,17 +98,24 @@ fn repeats(attributes: &Attributes<'_>, item: &Item<'_>) -> bool
     matches!(attributes.find(item.key), Some(first) if first.key_place < item.key_place)
 }
 
-/// Checks all items, with so many words of memory for a filter of keys; they are borrowed as a slice,
-/// so there may not be too many.
+/// Checks all items, with a filter of keys of so many words.
 fn check_with<const WORDS: usize>(attributes: &Attributes<'_>) -> Result<(), Fault>
     requires some { 0 < WORDS }
     requires few { WORDS < 2 ^ 32 }
     ensures { Checked attributes.now.place (left attributes.now) result }
 {
-    let mut words = [0; WORDS];
+    check_items(attributes, &mut [0; WORDS])
+}
+
+/// Checks all items, with memory for a filter of keys.
+// The words are a slice, since a check is slower by a seventh with a copy of the loop for each size.
+fn check_items(attributes: &Attributes<'_>, words: &mut [u64]) -> Result<(), Fault>
+    requires { 0 < length words.old }
+    ensures { Checked attributes.now.place (left attributes.now) result }
+{
     let mut rest = *attributes;
     while let Some(item) = rest.next()? {
-        if note(&mut words, key_number(item.key)) && repeats(attributes, &item) {
+        if note(words, key_number(item.key)) && repeats(attributes, &item) {
             return Err(Fault {
                 flaw: Flaw::Repeated,
                 place: item.key_place,
