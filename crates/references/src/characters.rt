@@ -17,7 +17,7 @@ impl<'t> Characters<'t> {
     pub fn over(raw: &'t [u8]) -> Result<Characters<'t>, Malformed>
         ensures { MatchResult result (λ x. (x.rest.now ≡ raw.now) × IsUtf8 raw.now) (λ _. IsUtf8 raw.now → ⊥) }
     {
-        let rest = std::str::from_utf8(raw)?;
+        let rest = std::str::from_utf8(raw).map_err(|_| Malformed)?;
         Ok(Characters { rest })
     }
 

@@ -5,7 +5,6 @@ ghost use Rattle.references.specs.Answers.{malformed_number, malformed_text, dec
 
 use std::error::Error;
 use std::fmt;
-use std::str::Utf8Error;
 
 /// The raw text is not UTF-8, or has an `&` that begins no reference to an allowed character.
 #[derive(Clone, Copy, Debug, PartialEq, Eq)]
@@ -39,12 +38,6 @@ impl DecodeRefusal {
             DecodeRefusal::Malformed => 8,
             DecodeRefusal::TooShort { .. } => 14,
         }
-    }
-}
-
-impl From<Utf8Error> for Malformed {
-    fn from(_: Utf8Error) -> Malformed {
-        Malformed
     }
 }
 

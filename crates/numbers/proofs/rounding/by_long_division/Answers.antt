@@ -4,11 +4,6 @@ use Rattle.numbers.proofs.Long.{long_way, long_digits}
 use Rattle.std.proofs.lemmas.Float.{not_nan_f64_bits}
 use Rattle.numbers.proofs.rounding.by_long_division.Goals as goal
 
-pub overflow_add-result-2 : goal.overflow_add-result-2
-overflow_add-result-2 c =
-    let d = c.doubled-unit in
-    omega (arith, long_digits c.from-dividend.result c.from.result d.result.1 d.result.0 c.quotient-digits.result (omega arith) d.ensures.times d.ensures.least d.ensures.most c.quotient-digits.ensures)
-
 pub float_from_bits-result : goal.float_from_bits-result
 float_from_bits-result c =
     let d = c.doubled-unit in
