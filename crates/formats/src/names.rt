@@ -1,5 +1,5 @@
 //! Reading a date kind by its name.
-ghost use Rattle.std.specs.Prelude.{◌≡◌, ◌≢◌};
+ghost use Rattle.std.specs.Prelude.{◌≡◌, ◌≢◌, Some, codes};
 ghost use Rattle.std.specs.Result as results;
 ghost use Rattle.formats.specs.Kinds.{kind_name};
 ghost use Rattle.formats.specs.declared.CellFormat.{CellFormat};
@@ -14,6 +14,8 @@ use std::str::FromStr;
 pub struct UnknownKind;
 
 impl fmt::Display for UnknownKind {
+    ghost output = { λ _. Some (codes "a kind is Other, DateTime or TimeDelta") };
+
     fn fmt<W: fmt::Write>(&self, f: &mut fmt::Formatter<W>) -> fmt::Result {
         f.write_str("a kind is Other, DateTime or TimeDelta")
     }
