@@ -11,14 +11,13 @@ use crate::xf::style_of;
 impl<'s, 'p, S> Iterator for Walk<'s, 'p, S> {
     type Item = Styled<'p, S>;
 
-    ghost next_gives = { λ w r w'. Stepped w r w' };
+    ghost next_gives = { Stepped };
 
     ghost remaining = { λ w. at_most (size (extent w.positions.area) - place w.positions) };
 
     fn next(&mut self) -> Option<Styled<'p, S>> {
         let at = self.positions.next()?;
-        let palette = self.palette;
-        let style = self.ids.next().and_then(|id| style_of(palette, id));
+        let style = self.ids.next().and_then(|id| style_of(self.palette, id));
         Some(Styled {
             row: at.row(),
             column: at.column(),
