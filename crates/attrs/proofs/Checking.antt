@@ -1,15 +1,17 @@
 -- A check of all items, item by item.
-use Rattle.std.proofs.Common.{ℕ, ltb, List, [], ◌∷◌, ◌++◌, Decides, refl, ap, subst, inl, inr, ⊎_elim, arith}
+use Rattle.std.proofs.Common.{◌≡◌, ℕ, ltb, Bool, false, Option, Some, None, List, [], ◌∷◌, ◌++◌, Decides, refl, ap, subst, inl, inr, ⊎_elim, arith}
 use Rattle.std.proofs.lemmas.Bool.Decides.{Decides-ltb}
 use Rattle.attrs.specs.Bytes.{white, All}
 use Rattle.attrs.specs.Grammar.{Attribute, First, Front, Has, Distinct, WellFormed, past}
 use Rattle.attrs.specs.Flaws.{Faulty, FirstFault}
-use Rattle.attrs.specs.Items.{FoundAt, Unambiguous}
+use Rattle.attrs.specs.Items.{attribute_of, Found, Unambiguous}
 use Rattle.attrs.specs.Seen.{key_number, Marked}
 use Rattle.attrs.specs.declared.fault.Flaw.TheVariants.{Repeated}
 use Rattle.attrs.specs.declared.fault.Fault.{Fault}
+use Rattle.attrs.specs.declared.item.Item.{Item}
+use Rattle.std.specs.Option.{MatchOption}
 use Rattle.attrs.proofs.Fronts.{front_push, has_push, distinct_push, items_one, fault_one, fault_not_formed}
-use Rattle.attrs.proofs.Finding.{repeated_or_first}
+use Rattle.attrs.proofs.Finding.{repeated_or_first, not_missing}
 
 -- The items so far are well-formed, their keys are distinct, and the bits of each key are set.
 pub record Sound (place : ℕ) (bytes words : List ℕ) (end : ℕ) (rest : List ℕ) : Type 0 where
@@ -52,17 +54,19 @@ module _ {place : ℕ} {bytes words : List ℕ} {end : ℕ} {rest : List ℕ} (s
       }
 
 -- an item repeats a key if the first item with that key stands before it
-pub first_tells : {place : ℕ} {bytes : List ℕ} (found : Attribute) (item : Attribute) → FoundAt place bytes item.key found
-    → (items : List Attribute) (end : ℕ) (rest next : List ℕ) → Front place bytes items end rest → First end rest item next
-    → Decides (ltb found.key_place item.key_place) (Has item.key items)
-first_tells {place} {bytes} found item f items end rest next front x =
-    let told = Decides-ltb found.key_place item.key_place in
-    ⊎_elim
-    (λ r. (λ _. r.0, λ _. told.1 r.1))
+pub first_tells : (place : ℕ) (bytes : List ℕ) (found : Option Item) (item : Attribute) (before : Bool) → Found place bytes item.key found
+    → MatchOption found (before ≡ false) (λ f. before ≡ ltb f.key_place item.key_place)
+    → (items : List Attribute) (end : ℕ) (rest next : List ℕ) → Front place bytes items end rest → First end rest item next → Decides before (Has item.key items)
+first_tells place bytes None item before missing told items end rest next front x = absurd (not_missing item.key place bytes items end rest item next front x refl missing)
+first_tells place bytes (Some found) item before f told items end rest next front x =
+    let tells = Decides-ltb found.key_place item.key_place in
+    rw told
+    (⊎_elim
+    (λ r. (λ _. r.0, λ _. tells.1 r.1))
     (λ r.
     let at = ap (λ a. a.key_place) r.1 in
-    (λ t. let before = told.0 t in absurd (omega (arith, at)), λ h. absurd (r.0 h)))
-    (repeated_or_first item.key place bytes items end rest item next f.earlier f.end f.rest found f.next front x refl f.front f.new f.first f.key_is)
+    (λ t. let before = tells.0 t in absurd (omega (arith, at)), λ h. absurd (r.0 h)))
+    (repeated_or_first item.key place bytes items end rest item next f.earlier f.end f.rest (attribute_of found) f.next front x refl f.front f.new f.first f.key_is))
 
 pub unambiguous : (place : ℕ) (bytes : List ℕ) → Unambiguous place bytes
 unambiguous place bytes =

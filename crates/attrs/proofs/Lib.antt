@@ -4,6 +4,5 @@ mod Reading
 mod Uniqueness
 mod Fronts
 mod Finding
-mod Nexts
 mod Filter
 mod Checking

@@ -1,5 +1,5 @@
 -- What the bounds that are read say of the bytes.
-use Rattle.std.proofs.Common.{◌≡◌, ℕ, ◌+◌, ◌-◌, ◌<◌, ◌≤◌, Bool, true, false, not, List, [], ◌∷◌, ◌++◌, length, get_or, take, drop, sym, refl, ap, ◌∙◌, subst, arith}
+use Rattle.std.proofs.Common.{◌≡◌, ℕ, ◌+◌, ◌-◌, ◌<◌, ◌≤◌, Bool, true, false, not, List, ◌∷◌, ◌++◌, length, get_or, take, drop, sym, refl, ap, ◌∙◌, subst, arith}
 use Rattle.std.proofs.lemmas.List.{drop_more, drop_all, take_rest, length-take, length-drop, length-append}
 use Rattle.attrs.specs.Bytes.{white, quote, key_byte, except, All, Begins, Run}
 use Rattle.attrs.specs.Grammar.{Keyed, Quoted, Apart, Indented, First}
@@ -7,7 +7,7 @@ use Rattle.attrs.specs.Flaws.{Unquoted, Unclosed, ValueFlaw, ItemFlaw, Faulty}
 use Rattle.attrs.specs.declared.fault.Flaw.{Flaw}
 use Rattle.attrs.specs.declared.fault.Flaw.TheVariants.{BadKey, NoSpace, NoQuote, NotClosed, Repeated}
 use Rattle.attrs.specs.declared.fault.Fault.{Fault}
-use Rattle.attrs.proofs.Runs.{split, stops_at_end, stops_here}
+use Rattle.attrs.proofs.Runs.{split, stops}
 use Rattle.attrs.proofs.Splits.{keyed_is, excepted}
 
 module _ (xs : List ℕ) (start end equals : ℕ) (key : Run key_byte xs start end) (gap : Run white xs end equals) where
@@ -38,38 +38,24 @@ module _ (xs : List ℕ) (start end equals : ℕ) (key : Run key_byte xs start e
       let some = keyed.some in
       omega (arith, long, length-take (end - start) (drop start xs))
 
-  pub no_equals_at_end : equals ≡ length xs → (k after : List ℕ) → Keyed (drop start xs) k after → ⊥
-  no_equals_at_end at_end k after keyed =
-      let empty : drop equals xs ≡ [] = drop_all equals xs (omega arith) in
-      let long : 0 ≡ length after + 1 = sym (ap length empty) ∙ ap length (key_read k after keyed).1 ∙ omega arith in
-      omega arith
-
-  pub other_byte : equals < length xs → (get_or xs equals 0 ≡ 61 → ⊥) → (k after : List ℕ) → Keyed (drop start xs) k after → ⊥
-  other_byte inside differs k after keyed =
-      let same : get_or xs equals 0 ∷ drop (equals + 1) xs ≡ 61 ∷ after = sym (drop_more xs equals 0 inside) ∙ (key_read k after keyed).1 in
-      differs cc
+  -- and with no equals sign after the key there is none
+  pub no_equals : (equals < length xs → get_or xs equals 0 ≡ 61 → ⊥) → (k after : List ℕ) → Keyed (drop start xs) k after → ⊥
+  no_equals differs k after keyed =
+      let read = (key_read k after keyed).1 in
+      let inside : equals < length xs = omega (arith, ap length read, length-drop equals xs, gap.high) in
+      let same : get_or xs equals 0 ∷ drop (equals + 1) xs ≡ 61 ∷ after = sym (drop_more xs equals 0 inside) ∙ read in
+      differs inside cc
 
 module _ (xs : List ℕ) (from opening : ℕ) (gap : Run white xs from opening) where
-  pub unquoted_at_end : opening ≡ length xs → Unquoted (drop from xs)
-  unquoted_at_end at_end =
+  pub unquoted : (opening < length xs → quote (get_or xs opening 0) ≡ false) → Unquoted (drop from xs)
+  unquoted plain =
       record {
         gap = take (opening - from) (drop from xs);
         tail = drop opening xs;
         white_gap = gap.run;
         spelt = split xs from opening gap.low;
         dark = gap.stop;
-        no_quote = stops_at_end quote xs opening (omega arith);
-      }
-
-  pub unquoted : opening < length xs → quote (get_or xs opening 0) ≡ false → Unquoted (drop from xs)
-  unquoted inside plain =
-      record {
-        gap = take (opening - from) (drop from xs);
-        tail = drop opening xs;
-        white_gap = gap.run;
-        spelt = split xs from opening gap.low;
-        dark = gap.stop;
-        no_quote = stops_here quote xs opening inside plain;
+        no_quote = stops quote xs opening plain;
       }
 
   module _ (mark end : ℕ) (inside : opening < length xs) (mark_is : mark ≡ get_or xs opening 0) (is_quote : quote mark ≡ true) (value : Run (except mark) xs (opening + 1) end) where

@@ -1,7 +1,5 @@
 -- Kinds of bytes in attribute text, and what holds of all bytes of a part. White space is that of XML 1.0, production S.
-use Rattle.std.specs.Prelude.{◌≡◌, ℕ, ◌-◌, ◌≤◌, Bool, true, not, ◌||◌, List, [], ◌∷◌, length, take, drop, ◌==◌}
-use Rattle.attrs.specs.declared.bytes.Kind.{Kind}
-use Rattle.attrs.specs.declared.bytes.Kind.TheVariants.{White, Key, Except}
+use Rattle.std.specs.Prelude.{◌≡◌, ℕ, ◌-◌, ◌<◌, ◌≤◌, Bool, true, not, ◌||◌, List, [], ◌∷◌, length, take, drop, ◌==◌}
 
 -- space, tab, line feed, carriage return
 abbrev pub white : ℕ → Bool
@@ -19,10 +17,9 @@ key_byte b = not (white b || (quote b || b == 61))
 abbrev pub except : ℕ → ℕ → Bool
 except mark b = not (b == mark)
 
-abbrev pub of_kind : Kind → ℕ → Bool
-of_kind White b = white b
-of_kind Key b = key_byte b
-of_kind (Except mark) b = except mark b
+-- the answers that a test may give to a byte are what p says
+abbrev pub Tells : (ℕ → Bool → Type 0) → (ℕ → Bool) → Type 0
+Tells answers p = (b : ℕ) (r : Bool) → b < 256 → answers b r → r ≡ p b
 
 -- every byte passes
 abbrev pub All : (ℕ → Bool) → List ℕ → Type 0

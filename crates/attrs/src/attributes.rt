@@ -1,10 +1,10 @@
 //! Attribute text, read item by item.
-ghost use Rattle.std.specs.Prelude.{◌≡◌, ℕ, ◌+◌, ◌<◌, ◌≤◌, List, length, take, drop, Decides};
+ghost use Rattle.std.specs.Prelude.{◌≡◌, ℕ, ◌+◌, ◌^◌, ◌<◌, ◌≤◌, List, length, take, drop, Decides};
 ghost use Rattle.std.specs.Option as options;
 ghost use Rattle.attrs.specs.Grammar.{Attribute, First, Front, Has, WellFormed};
 ghost use Rattle.attrs.specs.Items.{left, attribute_of, Next, OneFirst, Found, LookUp, Checked, Unambiguous};
 
-use crate::bytes::{Kind, run_end};
+use crate::bytes::{is_white, run_end};
 use crate::fault::{Fault, Flaw};
 use crate::item::{Item, key_bounds, value_bounds};
 use crate::seen::{key_number, note};
@@ -33,6 +33,8 @@ impl<'t> Attributes<'t> {
     }
 
     /// Takes the next item off the front; none at the end. A faulty item is refused, and stays.
+    // No `Iterator`: a faulty item stays, so a `for` over the items would refuse it again for ever.
+    #[tactic(auto, using(crate::proofs::Uniqueness::one_first))]
     pub fn next(&mut self) -> Result<Option<Item<'t>>, Fault>
         ensures text { self.new.text ≡ self.old.text }
         ensures next { Next self.old.place (left self.old) result self.new.place (left self.new) }
@@ -42,27 +44,21 @@ impl<'t> Attributes<'t> {
         if self.place >= text.len() {
             return Ok(None);
         }
-        let place = run_end(text, self.place, Kind::White);
+        let place = run_end(text, self.place, is_white);
         if place == text.len() {
             return Ok(None);
         }
-        let Some(key) = key_bounds(text, place) else {
-            return Err(Fault {
-                flaw: Flaw::BadKey,
-                place,
-            });
-        };
-        let (start, end) = match value_bounds(text, key.equals + 1) {
-            Ok(value) => (value.start, value.end),
-            Err(flaw) => return Err(Fault { flaw, place }),
-        };
-        let key_end = key.end;
-        self.place = end + 1;
+        let key = key_bounds(text, place).ok_or(Fault {
+            flaw: Flaw::BadKey,
+            place,
+        })?;
+        let value = value_bounds(text, key.equals + 1).map_err(|flaw| Fault { flaw, place })?;
+        self.place = value.end + 1;
         Ok(Some(Item {
-            key: &text[place..key_end],
-            value: &text[start..end],
+            key: &text[place..key.end],
+            value: &text[value.start..value.end],
             key_place: place,
-            value_place: start,
+            value_place: value.start,
         }))
     }
 
@@ -72,10 +68,7 @@ impl<'t> Attributes<'t> {
         ensures among { (items : List Attribute) → WellFormed self.now.place (left self.now) items → LookUp key.now items result }
     {
         let mut rest = *self;
-        while let Ok(first) = rest.next() {
-            let Some(item) = first else {
-                return None;
-            };
+        while let Ok(Some(item)) = rest.next() {
             if item.key == key {
                 return Some(item);
             }
@@ -84,16 +77,15 @@ impl<'t> Attributes<'t> {
     }
 
     /// Checks all items: the first faulty one, in their order, is refused.
+    #[tactic(auto, using(crate::proofs::Checking::unambiguous))]
     pub fn check(&self) -> Result<(), Fault>
         ensures checked { Checked self.now.place (left self.now) result }
         ensures unambiguous { Unambiguous self.now.place (left self.now) }
     {
         if self.text.len().saturating_sub(self.place) < LONG {
-            let mut words = [0; 16];
-            check_with(self, &mut words)
+            check_with::<16>(self)
         } else {
-            let mut words = [0; 32768];
-            check_with(self, &mut words)
+            check_with::<32768>(self)
         }
     }
 }
@@ -105,32 +97,24 @@ const LONG: usize = 2048;
 fn repeats(attributes: &Attributes<'_>, item: &Item<'_>) -> bool
     ensures { (items : List Attribute) (end : ℕ) (rest : List ℕ) (next : List ℕ) → Front attributes.now.place (left attributes.now) items end rest → First end rest (attribute_of item.now) next → Decides result (Has item.now.key.now items) }
 {
-    match attributes.find(item.key) {
-        Some(first) => first.key_place < item.key_place,
-        None => false,
-    }
+    matches!(attributes.find(item.key), Some(first) if first.key_place < item.key_place)
 }
 
-/// Checks all items, with memory for a filter of keys.
-fn check_with(attributes: &Attributes<'_>, words: &mut [u64]) -> Result<(), Fault>
-    requires { 0 < length words.old }
+/// Checks all items, with so many words of memory for a filter of keys.
+fn check_with<const WORDS: usize>(attributes: &Attributes<'_>) -> Result<(), Fault>
+    requires some { 0 < WORDS }
+    requires few { WORDS < 2 ^ 32 }
     ensures { Checked attributes.now.place (left attributes.now) result }
 {
+    let mut words = [0; WORDS];
     let mut rest = *attributes;
-    loop {
-        match rest.next() {
-            Err(fault) => return Err(fault),
-            Ok(first) => {
-                let Some(item) = first else {
-                    return Ok(());
-                };
-                if note(words, key_number(item.key)) && repeats(attributes, &item) {
-                    return Err(Fault {
-                        flaw: Flaw::Repeated,
-                        place: item.key_place,
-                    });
-                }
-            }
+    while let Some(item) = rest.next()? {
+        if note(&mut words, key_number(item.key)) && repeats(attributes, &item) {
+            return Err(Fault {
+                flaw: Flaw::Repeated,
+                place: item.key_place,
+            });
         }
     }
+    Ok(())
 }

@@ -1,51 +1,38 @@
 //! Kinds of bytes, and where a run of one kind ends.
-ghost use Rattle.std.specs.Prelude.{◌≡◌, ◌≤◌, length};
-ghost use Rattle.attrs.specs.Bytes.{white, quote, of_kind, Run};
+ghost use Rattle.std.specs.Prelude.{◌≡◌, ℕ, ◌≤◌, Bool, length};
+ghost use Rattle.attrs.specs.Bytes.{white, quote, key_byte, Tells, Run};
 
-/// A kind of bytes.
-#[derive(Clone, Copy)]
-pub(crate) enum Kind {
-    /// Space, tab, line feed and carriage return.
-    White,
-    /// What a key is made of: no white space, no quote and no `=`.
-    Key,
-    /// Every byte but this one.
-    Except(u8),
-}
-
-/// Whether a byte is white space.
+/// Whether a byte is white space: space, tab, line feed or carriage return.
 pub(crate) fn is_white(byte: u8) -> bool
     ensures { result ≡ white byte }
 {
-    byte == b' ' || byte == b'\t' || byte == b'\n' || byte == b'\r'
+    matches!(byte, b' ' | b'\t' | b'\n' | b'\r')
 }
 
 /// Whether a byte is a quote, single or double.
 pub(crate) fn is_quote(byte: u8) -> bool
     ensures { result ≡ quote byte }
 {
-    byte == b'"' || byte == b'\''
+    matches!(byte, b'"' | b'\'')
 }
 
-/// Whether a byte is of the kind.
-fn is_of(kind: Kind, byte: u8) -> bool
-    ensures { result ≡ of_kind kind byte }
+/// Whether a key may hold the byte: it is no white space, no quote and no `=`.
+pub(crate) fn is_key_byte(byte: u8) -> bool
+    ensures { result ≡ key_byte byte }
 {
-    match kind {
-        Kind::White => is_white(byte),
-        Kind::Key => !(is_white(byte) || is_quote(byte) || byte == b'='),
-        Kind::Except(mark) => byte != mark,
-    }
+    !(is_white(byte) || is_quote(byte) || byte == b'=')
 }
 
-/// The end of the run of bytes of the kind that begins at `from`.
-pub(crate) fn run_end(bytes: &[u8], from: usize, kind: Kind) -> usize
-    requires { from ≤ length bytes.now }
-    ensures { Run (of_kind kind) bytes.now from result }
+/// The end of the run of bytes that pass the test, which begins at `from`.
+pub(crate) fn run_end<F: Fn(u8) -> bool>(bytes: &[u8], from: usize, test: F) -> usize
+    requires callable { F.IsAlwaysCallable test }
+    requires inside { from ≤ length bytes.now }
+    ensures low { from ≤ result }
+    ensures high { result ≤ length bytes.now }
+    ensures run { (passes : ℕ → Bool) → Tells (F.post test) passes → Run passes bytes.now from result }
 {
-    let mut at = from;
-    while at < bytes.len() && is_of(kind, bytes[at]) {
-        at += 1;
-    }
-    at
+    bytes[from..]
+        .iter()
+        .position(|byte| !test(*byte))
+        .map_or(bytes.len(), |count| from + count)
 }

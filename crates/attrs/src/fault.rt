@@ -5,7 +5,7 @@ ghost use Rattle.attrs.specs.Refusals.{flaw_number, flaw_words, fault_text};
 use std::fmt;
 
 /// What is wrong with an item.
-#[derive(Clone, Copy)]
+#[derive(Clone, Copy, PartialEq, Eq)]
 pub enum Flaw {
     /// It does not begin with a key and an `=`.
     BadKey,
@@ -21,20 +21,19 @@ pub enum Flaw {
 
 /// The first fault of attribute text: what is wrong, and the place in the text where the faulty item
 /// begins.
-#[derive(Clone, Copy)]
+#[derive(Clone, Copy, PartialEq, Eq)]
 pub struct Fault {
     pub flaw: Flaw,
     pub place: usize,
 }
 
 impl Flaw {
-    /// The number of the refusal.
+    /// The number of the refusal, by which the project's rules name it.
     pub fn number(&self) -> u32
         ensures { result ≡ flaw_number self.now }
     {
         match *self {
-            Flaw::BadKey => 4,
-            Flaw::NoSpace => 4,
+            Flaw::BadKey | Flaw::NoSpace => 4,
             Flaw::NoQuote => 5,
             Flaw::NotClosed => 6,
             Flaw::Repeated => 7,

@@ -5,11 +5,11 @@ ghost use Rattle.std.specs.Result as results;
 ghost use Rattle.attrs.specs.Grammar.{Keyed, Quoted, Apart};
 ghost use Rattle.attrs.specs.Flaws.{ValueFlaw};
 
-use crate::bytes::{Kind, is_quote, is_white, run_end};
+use crate::bytes::{is_key_byte, is_quote, is_white, run_end};
 use crate::fault::Flaw;
 
 /// An item: its key, its value without the quotes, and the places of both in the text.
-#[derive(Clone, Copy)]
+#[derive(Clone, Copy, PartialEq, Eq)]
 pub struct Item<'t> {
     pub key: &'t [u8],
     pub value: &'t [u8],
@@ -37,12 +37,9 @@ pub(crate) fn key_bounds(bytes: &[u8], start: usize) -> Option<KeyBounds>
     ensures within { IfSome result (λ k. (start ≤ k.end) × (k.end ≤ k.equals) × (k.equals < length bytes.now)) }
     ensures keyed { options.MatchOption result ((key : List ℕ) (after : List ℕ) → Keyed (drop start bytes.now) key after → ⊥) (λ k. Keyed (drop start bytes.now) (take (k.end - start) (drop start bytes.now)) (drop (k.equals + 1) bytes.now)) }
 {
-    let end = run_end(bytes, start, Kind::Key);
-    let equals = run_end(bytes, end, Kind::White);
-    if end == start || equals == bytes.len() {
-        return None;
-    }
-    if bytes[equals] != b'=' {
+    let end = run_end(bytes, start, is_key_byte);
+    let equals = run_end(bytes, end, is_white);
+    if end == start || bytes.get(equals) != Some(&b'=') {
         return None;
     }
     Some(KeyBounds { end, equals })
@@ -55,20 +52,18 @@ pub(crate) fn value_bounds(bytes: &[u8], from: usize) -> Result<ValueBounds, Fla
     ensures quoted { results.MatchResult result (λ v. Quoted (drop from bytes.now) (take (v.end - v.start) (drop v.start bytes.now)) (drop (v.end + 1) bytes.now)) (λ flaw. ValueFlaw (drop from bytes.now) flaw) }
     ensures apart { IfOk result (λ v. Apart (drop (v.end + 1) bytes.now)) }
 {
-    let open = run_end(bytes, from, Kind::White);
-    if open == bytes.len() {
-        return Err(Flaw::NoQuote);
-    }
-    let mark = bytes[open];
-    if !is_quote(mark) {
-        return Err(Flaw::NoQuote);
-    }
+    let open = run_end(bytes, from, is_white);
+    let mark = bytes
+        .get(open)
+        .copied()
+        .filter(|byte| is_quote(*byte))
+        .ok_or(Flaw::NoQuote)?;
     let start = open + 1;
-    let end = run_end(bytes, start, Kind::Except(mark));
+    let end = run_end(bytes, start, |byte| byte != mark);
     if end == bytes.len() {
         return Err(Flaw::NotClosed);
     }
-    if end + 1 < bytes.len() && !is_white(bytes[end + 1]) {
+    if bytes.get(end + 1).is_some_and(|byte| !is_white(*byte)) {
         return Err(Flaw::NoSpace);
     }
     Ok(ValueBounds { start, end })

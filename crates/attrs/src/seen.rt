@@ -6,13 +6,11 @@ ghost use Rattle.attrs.specs.Seen.{key_number, bit, bits_of, Marked};
 pub(crate) fn key_number(key: &[u8]) -> u64
     ensures { result ≡ key_number key.now }
 {
-    let mut number: u64 = 1;
-    for byte in key {
-        number = number
-            .wrapping_add(*byte as u64)
-            .wrapping_mul(0x9e37_79b9_7f4a_7c15);
-    }
-    number
+    key.iter().fold(1, |number: u64, byte| {
+        number
+            .wrapping_add(u64::from(*byte))
+            .wrapping_mul(0x9e37_79b9_7f4a_7c15)
+    })
 }
 
 /// A word with one bit.

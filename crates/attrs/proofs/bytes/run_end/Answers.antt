@@ -1,30 +1,18 @@
-use Rattle.std.proofs.Common.{sym, ◌∙◌, arith}
-use Rattle.attrs.specs.Bytes.{of_kind}
-use Rattle.attrs.proofs.Runs.{run_more, stops_here, stops_at_end}
+use Rattle.std.proofs.Common.{rules, arith, ◌≡◌, length, drop, ◌+◌, ◌<◌, true, false, ◌∙◌}
+use Rattle.std.proofs.lemmas.List.{take_rest}
+use Rattle.std.proofs.lemmas.Iterator.{IsFirst-from_position, YieldsList-from_slice}
+use Rattle.std.specs.Option.{MatchOption}
+use borrow.Author.Tests.{tests}
+use Rattle.attrs.proofs.Runs.{run_from}
 use Rattle.attrs.proofs.bytes.run_end.Goals as goal
 
-pub loop-at-preserved : goal.loop-at-preserved
-loop-at-preserved c = (
-  omega arith,
-  omega arith,
-  run_more (of_kind c.args.kind) c.args.bytes.now c.args.from c.loop-at.at (omega arith) (omega arith) c.loop-at.invariant.2
-      (sym c.is_of.ensures ∙ c.if-is_of.true),
-)
-
-pub returns-else-is_of : goal.returns-else-is_of
-returns-else-is_of c =
-    record {
-      low = omega arith;
-      high = omega arith;
-      run = c.loop-at.invariant.2;
-      stop = stops_here (of_kind c.args.kind) c.args.bytes.now c.loop-at.at (omega arith) (sym c.is_of.ensures ∙ c.if-is_of.false);
-    }
-
-pub returns-after-loop-at : goal.returns-after-loop-at
-returns-after-loop-at c =
-    record {
-      low = omega arith;
-      high = omega arith;
-      run = c.loop-at.invariant.2;
-      stop = stops_at_end (of_kind c.args.kind) c.args.bytes.now c.loop-at.at (omega arith);
-    }
+pub returns-clause-run : goal.returns-clause-run
+returns-clause-run g c p told =
+    let bytes = c.args.bytes.now in
+    let from = c.args.from in
+    let first =
+    IsFirst-from_position _ _ c.position.result (λ b. b < 256 → p b ≡ false) (λ b. b < 256 → p b ≡ true) c.position.ensures.ran
+    (YieldsList-from_slice (drop from bytes) (c.iter.ensures.rest ∙ take_rest bytes from))
+    (λ x q k low. search (rules, tests, told)) (λ x q k. (search (rules, tests), λ low. search (rules, tests, told))) in
+    let placed : MatchOption c.position.result (c.map_or.result ≡ length bytes) (λ count. c.map_or.result ≡ from + count) = search rules in
+    run_from p bytes from c.map_or.result c.position.result c.requires.inside (λ i. omega (arith, c.type_inv.bytes i)) first placed

@@ -1,37 +1,24 @@
-use Rattle.std.proofs.Common.{◌<◌, length, ⊎_elim, arith}
-use Rattle.attrs.proofs.Reading.{key_there, no_key, no_equals_at_end, other_byte}
+use Rattle.std.proofs.Common.{◌≡◌, ◌<◌, rules, arith, length, get_or}
+use Rattle.std.proofs.lemmas.Grind.{common_steps}
+use Rattle.attrs.specs.Bytes.{white, key_byte, Run}
+use Rattle.attrs.proofs.Reading.{key_there, no_key, no_equals}
 use Rattle.attrs.proofs.item.key_bounds.Goals as goal
+use Rattle.attrs.proofs.item.key_bounds.Goals.{then-end-start-via-then-end-start, then-end-start-via-else-end-start+then-ne}
 
-pub returns-then-end-start : goal.returns-then-end-start
-returns-then-end-start c =
-    let xs = c.args.bytes.now in
-    let start = c.args.start in
-    let end = c.run_end-end.result in
-    let equals = c.run_end-equals.result in
-    let key = c.run_end-end.ensures in
-    let gap = c.run_end-equals.ensures in
-    record {
-      within = tt;
-      keyed = ⊎_elim (no_key xs start end equals key gap) (λ w. no_equals_at_end xs start end equals key gap w.1) c.then-end-start.either;
-    }
+pub returns-then-end-start-clause-keyed : goal.returns-then-end-start-clause-keyed
+returns-then-end-start-clause-keyed c =
+    let key : Run key_byte c.args.bytes.now c.args.start c.run_end-end.result = c.run_end-end.ensures.run key_byte (search rules) in
+    let gap : Run white c.args.bytes.now c.run_end-end.result c.run_end-equals.result = c.run_end-equals.ensures.run white (search rules) in
+    elim c.then-end-start.branch [
+      | then-end-start-via-then-end-start w ↦ no_key _ _ _ _ key gap w.if-end-start.true
+      | then-end-start-via-else-end-start+then-ne w ↦
+          no_equals _ _ _ _ key gap (λ inside is. grind (arith, common_steps))
+    ]
 
-pub returns-then-bytes-equals-ne61 : goal.returns-then-bytes-equals-ne61
-returns-then-bytes-equals-ne61 c =
-    let key = c.run_end-end.ensures in
-    let gap = c.run_end-equals.ensures in
-    let inside : c.run_end-equals.result < length c.args.bytes.now = omega (arith, gap.high) in
-    record {
-      within = tt;
-      keyed = other_byte c.args.bytes.now c.args.start c.run_end-end.result c.run_end-equals.result key gap inside c.if-bytes-equals-ne61.true;
-    }
-
-pub returns : goal.returns
-returns c =
-    let key = c.run_end-end.ensures in
-    let gap = c.run_end-equals.ensures in
-    record {
-      within = (key.low, gap.low, omega (arith, gap.high));
-      keyed =
-          key_there c.args.bytes.now c.args.start c.run_end-end.result c.run_end-equals.result key gap (omega (arith, key.low)) (omega (arith, gap.high))
-          c.if-bytes-equals-ne61.false;
-    }
+pub returns-clause-keyed : goal.returns-clause-keyed
+returns-clause-keyed c =
+    let key : Run key_byte c.args.bytes.now c.args.start c.run_end-end.result = c.run_end-end.ensures.run key_byte (search rules) in
+    let gap : Run white c.args.bytes.now c.run_end-end.result c.run_end-equals.result = c.run_end-equals.ensures.run white (search rules) in
+    let inside : c.run_end-equals.result < length c.args.bytes.now = search rules in
+    let is : get_or c.args.bytes.now c.run_end-equals.result 0 ≡ 61 = search rules in
+    key_there c.args.bytes.now c.args.start c.run_end-end.result c.run_end-equals.result key gap (omega (arith, key.low)) inside is
