@@ -1,9 +1,9 @@
 -- The digits at the front of a text, one more read at a time; and a text that is nothing but digits.
-use Rattle.std.proofs.Common.{◌≡◌, ℕ, ◌+◌, ◌-◌, ◌*◌, ◌^◌, ◌<◌, ◌≤◌, Bool, true, false, cond, not, ◌&&◌, ltb, List, [], ◌∷◌, length, get_or, drop, Some, None, Option, sym, refl, ap, ◌∙◌, subst, inl, inr, le_trans, le_refl, add-one, arith, drop-cons}
+use Rattle.std.proofs.Common.{◌≡◌, ℕ, ◌+◌, ◌-◌, ◌*◌, ◌^◌, ◌<◌, ◌≤◌, Bool, true, false, cond, not, ◌&&◌, eqb, ltb, List, [], ◌∷◌, length, get_or, Some, None, Option, sym, refl, ap, ◌∙◌, subst, inl, inr, le_trans, le_refl, arith}
 use Rattle.std.specs.Char.{is_ascii_digit}
+use Rattle.std.specs.Bool.{then_some}
 use Rattle.std.specs.Str.{all_ascii_digits}
-use Rattle.std.proofs.lemmas.List.{drop_all}
-use Rattle.std.proofs.lemmas.Bool.{lt-ltb, le-ltb, cond-true, cond-false, cases_lt, cases_eq, cases_Bool, and_parts, true≢false}
+use Rattle.std.proofs.lemmas.Bool.{eqb-true, eqb-false, lt-ltb, le-ltb, cond-true, cond-false, cases_lt, cases_eq, cases_Bool, and_parts, true≢false}
 use Rattle.numbers.specs.Cuts.{before_first, from_first}
 use Rattle.numbers.specs.Numerals.{value_after, below, whole_number}
 use Rattle.numbers.specs.Fronts.{no_digit, front}
@@ -20,13 +20,6 @@ pub front_digit : (n c : ℕ) (cs : List ℕ) → is_ascii_digit c ≡ true → 
 unfolding by_test
 front_digit n c cs h = ap (by_test n c cs) h
 
-pub front_end : (n : ℕ) → n < 2 ^ 64 → Some (n, []) ≡ front n []
-front_end n h = sym (cond-true _ _ _ (lt-ltb n (2 ^ 64) h))
-
-pub front_stop : (n c : ℕ) (cs : List ℕ) → is_ascii_digit c ≡ false → n < 2 ^ 64 → Some (n, c ∷ cs) ≡ front n (c ∷ cs)
-unfolding by_test
-front_stop n c cs h l = sym (ap (by_test n c cs) h ∙ cond-true _ _ _ (lt-ltb n (2 ^ 64) l))
-
 pub value_after_ge : (n : ℕ) (ds : List ℕ) → n ≤ value_after n ds
 value_after_ge n [] = le_refl n
 value_after_ge n (c ∷ cs) = le_trans (omega arith) (value_after_ge (n * 10 + (c - 48)) cs)
@@ -34,29 +27,7 @@ value_after_ge n (c ∷ cs) = le_trans (omega arith) (value_after_ge (n * 10 + (
 pub front_over : (n : ℕ) (text : List ℕ) → 2 ^ 64 ≤ n → front n text ≡ None
 front_over n text h = cond-false _ _ _ (le-ltb _ (2 ^ 64) (le_trans h (value_after_ge n (before_first no_digit text))))
 
--- ---- the same from an index on
-
-module _ (text : List ℕ) (i n : ℕ) (h : i < length text) where
-  here : drop i text ≡ get_or text i 0 ∷ drop (i + 1) text
-  here = drop-cons text i 0 h ∙ ap (λ (k : ℕ). get_or text i 0 ∷ drop k text) (sym (add-one i))
-
-  pub front_more : is_ascii_digit (get_or text i 0) ≡ true → front n (drop i text) ≡ front (n * 10 + (get_or text i 0 - 48)) (drop (i + 1) text)
-  front_more d = ap (front n) here ∙ front_digit n (get_or text i 0) (drop (i + 1) text) d
-
-  pub front_stops : is_ascii_digit (get_or text i 0) ≡ false → n < 2 ^ 64 → Some (n, drop i text) ≡ front n (drop i text)
-  front_stops d l = ap (λ (t : List ℕ). Some (n, t)) here ∙ front_stop n (get_or text i 0) (drop (i + 1) text) d l ∙ ap (front n) (sym here)
-
-pub front_at_end : (text : List ℕ) (i n : ℕ) → length text ≤ i → n < 2 ^ 64 → Some (n, drop (length text) text) ≡ front n (drop i text)
-front_at_end text i n h l = ap (λ (t : List ℕ). Some (n, t)) (drop_all (length text) text (omega arith)) ∙ front_end n l ∙ ap (front n) (sym (drop_all i text h))
-
 -- ---- a number below a limit
-
-pub below_some : (limit n m : ℕ) → Some m ≡ below limit n → (m ≡ n) × (n < limit)
-below_some limit n m e =
-    elim (cases_lt n limit) [
-      | inl l ↦ (let h = e ∙ cond-true _ _ _ (lt-ltb n limit l) in cc, l)
-      | inr l ↦ absurd (let h = e ∙ cond-false _ _ _ (le-ltb n limit l) in let z : ◌≡◌ {A = ℕ} 0 1 = cc in omega arith)
-    ]
 
 pub below_none : (limit n : ℕ) → None ≡ below limit n → limit ≤ n
 below_none limit n e =
@@ -64,6 +35,11 @@ below_none limit n e =
       | inl l ↦ absurd (let h = e ∙ cond-true _ _ _ (lt-ltb n limit l) in let z : ◌≡◌ {A = ℕ} 0 1 = cc in omega arith)
       | inr l ↦ l
     ]
+
+-- one more digit at the front, with which the number is too large
+pub front_large : (n : ℕ) (text : List ℕ) → 0 < length text → is_ascii_digit (get_or text 0 0) ≡ true → None ≡ below (2 ^ 64) (n * 10 + (get_or text 0 0 - 48)) → None ≡ front n text
+front_large n [] some d e = absurd (omega arith)
+front_large n (c ∷ cs) some d e = sym (front_digit n c cs d ∙ front_over (n * 10 + (c - 48)) cs (below_none (2 ^ 64) (n * 10 + (c - 48)) e))
 
 -- ---- a text that is nothing but digits
 
@@ -156,3 +132,11 @@ front_is_all (c ∷ cs) p e h z =
     let s = front_some 0 (c ∷ cs) p e in
     let l : length p.1 ≡ length (from_first no_digit (c ∷ cs)) = ap length s.1 in
     ap (λ (n : ℕ). Some n) s.0 ∙ sym (cond-true _ _ _ (lt-ltb _ _ s.2)) ∙ numeral_is (2 ^ 64) (c ∷ cs) (omega arith) (omega arith)
+
+-- what a text says, from its front: the number there, if nothing follows it
+pub whole_from_front : (text : List ℕ) (p : ℕ × List ℕ) → Some p ≡ front 0 text → (length text ≡ 0 → ⊥) → then_some (eqb (length p.1) 0) p.0 ≡ whole_number (2 ^ 64) text
+whole_from_front text p e some =
+    elim (cases_Bool (eqb (length p.1) 0)) [
+      | inl t ↦ ap (λ (b : Bool). then_some b p.0) t ∙ front_is_all text p e some (eqb-true (length p.1) 0 t)
+      | inr f ↦ ap (λ (b : Bool). then_some b p.0) f ∙ followed_none (2 ^ 64) 0 text p e (eqb-false (length p.1) 0 f)
+    ]

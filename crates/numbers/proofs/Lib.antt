@@ -2,7 +2,6 @@ pub mod Fronts
 pub mod Powers
 pub mod Values
 pub mod Long
-pub mod Exponents
 pub mod Forms
 pub mod Scans
 pub mod Places

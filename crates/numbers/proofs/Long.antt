@@ -1,23 +1,18 @@
 -- The fraction w / p rounded by whole numbers: 53 binary digits of it, and the power of two that they count.
-use Rattle.std.proofs.Common.{◌≡◌, ℕ, ◌+◌, ◌-◌, ◌*◌, ◌/◌, ◌%◌, ◌^◌, ◌<◌, ◌≤◌, Bool, false, not, T, sym, ap, ◌∙◌, subst, le_trans, lt_of_lt_of_le, mul-le-mul_right, mul_assoc, mul_comm, div-lt_iff_lt-mul, mul-lt-mul_of_pos_right, mul-pos, lt_of_not-le, le-div_iff_mul-le, not-le_of_lt, mul_left_comm, arith, pow_pos, pow_mono, pow-add, shl_lt}
+use Rattle.std.proofs.Common.{◌≡◌, ℕ, ◌+◌, ◌-◌, ◌*◌, ◌/◌, ◌%◌, ◌^◌, ◌<◌, ◌≤◌, false, sym, ap, ◌∙◌, subst, lt_of_lt_of_le, mul-le-mul_right, mul_assoc, mul_comm, div-lt_iff_lt-mul, mul-lt-mul_of_pos_right, mul-pos, lt_of_not-le, le-div_iff_mul-le, not-le_of_lt, mul_left_comm, arith, pow_pos, pow_mono, pow-add, shl_lt}
 use Prim.Native.Nat.{compare}
-use native.Mathlib.Nat.{mod-le}
-use lib.Ieee.{binary64, size, round, of_bits, nan_bits}
+use lib.Ieee.{binary64, size, round, of_bits}
 use lib.Ieee.Digits.{size-lt, size-le}
 use lib.Ieee.Exact.{HasValue}
 use lib.Ieee.Fits.{round-fits, nearest-le}
 use lib.Ieee.Nearest.{closest, closest_same, nearest-ge}
-use lib.Ieee.Bits.{of_bits-fits, nan_bits_above}
+use lib.Ieee.Bits.{of_bits-fits}
 use lib.Ieee.Scale.{grid, round_val}
 use Rattle.std.proofs.num.Values.{same_value}
-use Rattle.std.proofs.lemmas.Bool.{le-ltb}
 use Rattle.numbers.proofs.Values.{value_of_bits}
 
 size_gt : (n j : ℕ) → 2 ^ j ≤ n → j < size n
 size_gt n j h = lt_of_not-le (λ (g : size n ≤ j). not-le_of_lt (lt_of_lt_of_le (size-lt n) (pow_mono g)) h)
-
-power_at : (a b : ℕ) → a ≡ b → 2 ^ a ≡ 2 ^ b
-power_at a b e = ap (λ (k : ℕ). 2 ^ k) e
 
 -- products in another order
 turned : (v u d p : ℕ) → v * u * d * p ≡ p * d * v * u
@@ -101,7 +96,3 @@ long_digits w p c b q P e least most d =
     let r = digits_in w p c P l m in
     let s : q ≡ closest (w * 2 ^ 60) (p * 2 ^ c) = d ∙ ap (closest (w * 2 ^ 60)) e in
     omega (arith, r.1)
-
--- bits below those of infinity are no NaN's
-pub no_nan : (n : ℕ) → n ≤ 2047 * 2 ^ 52 → T (not (nan_bits binary64 n))
-no_nan n h = subst (λ (b : Bool). T (not b)) (sym (nan_bits_above binary64 n ∙ le-ltb (2047 * 2 ^ 52) (n % 2 ^ 63) (le_trans (mod-le n (2 ^ 63)) h))) tt

@@ -1,12 +1,12 @@
 -- What a decimal says, from the digits at its front, those after a point, and what is left.
-use Rattle.std.proofs.Common.{◌≡◌, ℕ, ◌+◌, ◌-◌, ◌*◌, ◌^◌, ◌<◌, ◌≤◌, Bool, true, false, cond, ◌&&◌, leb, List, [], ◌∷◌, ◌++◌, length, drop, ℤ, pos, negsuc, ◌-ℤ◌, Some, None, Option, sym, refl, ap, ◌∙◌, subst, inl, inr, arith, length-append}
+use Rattle.std.proofs.Common.{◌≡◌, ℕ, ◌+◌, ◌-◌, ◌*◌, ◌^◌, ◌<◌, ◌≤◌, Bool, true, false, cond, ◌&&◌, leb, List, [], ◌∷◌, ◌++◌, length, get_or, drop, ℤ, pos, negsuc, ◌-ℤ◌, Some, None, Option, sym, refl, ap, ◌∙◌, subst, inl, inr, arith, length-append}
 use Rattle.std.specs.Char.{is_ascii_digit}
 use Rattle.std.specs.Str.{all_ascii_digits}
 use Rattle.std.specs.Option.{option_map, option_flatten}
-use Rattle.std.proofs.lemmas.Bool.{lt-ltb, le-ltb, leb-true, cond-true, cond-false, cases_lt, cases_Bool, and_parts}
+use Rattle.std.proofs.lemmas.Bool.{lt-ltb, le-ltb, leb-true, cond-true, cond-false, cases_lt, cases_Bool, and_parts, ne_eqb}
 use Rattle.numbers.specs.Cuts.{before_first, from_first, begins}
 use Rattle.numbers.specs.Numerals.{numeral, value_after, value}
-use Rattle.numbers.specs.Decimals.{is_point, exponent, Form, form, form_of, power_within, scaled, within_limits, magnitude}
+use Rattle.numbers.specs.Decimals.{is_minus, is_point, exponent, Form, form, form_of, power_within, scaled, within_limits, magnitude, decimal_of}
 use Rattle.numbers.specs.declared.decimals.Scaled.{Scaled}
 use Rattle.numbers.specs.Fronts.{no_digit, front, power_below, past_point}
 use Rattle.numbers.proofs.Fronts.{value_after_ge, front_some, front_none}
@@ -207,3 +207,8 @@ bounds minus d (Some f) e =
 
 pub said_bounds : (minus : Bool) (d : Scaled) (text : List ℕ) → Some d ≡ magnitude minus text → (d.w < 10 ^ 18) × (d.k ≤ 18)
 said_bounds minus d text e = bounds minus d (form_of text) e
+
+-- a text that begins with no minus sign
+pub no_minus : (text : List ℕ) → (0 < length text → get_or text 0 0 ≡ 45 → ⊥) → magnitude false text ≡ decimal_of text
+no_minus [] h = refl
+no_minus (c ∷ cs) h = let plain : is_minus c ≡ false = ne_eqb c 45 (h (omega arith)) in (λ i. magnitude (sym plain i) (cond (sym plain i) cs (c ∷ cs)))

@@ -3,7 +3,7 @@ ghost use Rattle.std.specs.Prelude.{◌≡◌, ℕ, List, pos, ◌-ℤ◌, nat_e
 ghost use Rattle.std.specs.Borrow.{Bor};
 ghost use Rattle.std.specs.Option.{option_map};
 ghost use Rattle.numbers.specs.Cuts.{begins, without};
-ghost use Rattle.numbers.specs.Decimals.{is_mark, is_sign, signed, power_within, magnitude, decimal_of, decimal_value};
+ghost use Rattle.numbers.specs.Decimals.{is_minus, is_sign, signed, power_within, magnitude, decimal_of, decimal_value};
 ghost use Rattle.numbers.specs.Fronts.{power_below, past_point};
 
 use crate::digits::{digits, number};
@@ -12,7 +12,7 @@ use crate::rounding::nearest;
 /// What a decimal says: w / 10^k, negative or not.
 #[derive(Clone, Copy)]
 pub struct Scaled {
-    /// Whether a minus sign stands in front.
+    /// Whether a minus sign stands in front: a flag, as the sign of a binary64 is one.
     pub negative: bool,
     /// The digits, those before the point and those after it, as one number.
     pub w: u64,
@@ -26,50 +26,31 @@ const TOO_LARGE: u64 = 1_000_000_000_000_000_000;
 /// The largest power of ten that may stand under a decimal.
 const MOST_PLACES: usize = 18;
 
-/// Whether a text begins with a byte.
-fn begins_with(text: &[u8], byte: u8) -> bool
-    ensures { result ≡ begins (λ c. nat_eq c byte) text.now }
-{
-    !text.is_empty() && text[0] == byte
-}
-
 /// As many places as there are digits after the point, less an exponent, where that is no more than
 /// the limit and not below 0.
 fn places(after: usize, negative: bool, size: u64) -> Option<usize>
     ensures { result ≡ power_within (pos after -ℤ signed negative size) }
 {
-    let exponent = size as usize;
+    // The sign and the size stay two values: an i64 holds no size from 2^63 on.
+    let size = size as usize;
     let count = if negative {
-        after.checked_add(exponent)?
+        after.checked_add(size)?
     } else {
-        after.checked_sub(exponent)?
+        after.checked_sub(size)?
     };
-    if count <= MOST_PLACES {
-        Some(count)
-    } else {
-        None
+    (count <= MOST_PLACES).then_some(count)
+}
+
+/// Whether a minus sign stands in front of a text, and the text without its sign.
+fn sign_and_size(text: &[u8]) -> (bool, &[u8])
+    ensures negative { result.0 ≡ begins is_minus text.now }
+    ensures size { result.1.now ≡ without is_sign text.now }
+{
+    match text {
+        [b'-', size @ ..] => (true, size),
+        [b'+', size @ ..] => (false, size),
+        _ => (false, text),
     }
-}
-
-/// Whether a text begins with the mark of an exponent.
-fn is_marked(text: &[u8]) -> bool
-    ensures { result ≡ begins is_mark text.now }
-{
-    begins_with(text, b'e') || begins_with(text, b'E')
-}
-
-/// Whether a text begins with a sign.
-fn is_signed(text: &[u8]) -> bool
-    ensures { result ≡ begins is_sign text.now }
-{
-    begins_with(text, b'-') || begins_with(text, b'+')
-}
-
-/// A text without a sign in front.
-fn without_sign(text: &[u8]) -> &[u8]
-    ensures { result.now ≡ without is_sign text.now }
-{
-    if is_signed(text) { &text[1..] } else { text }
 }
 
 /// The power of ten under a decimal's digits, of which `after` stand after the point, from what
@@ -77,25 +58,24 @@ fn without_sign(text: &[u8]) -> &[u8]
 fn power_under(after: usize, part: &[u8]) -> Option<usize>
     ensures { result ≡ power_below after part.now }
 {
-    if part.is_empty() {
-        return places(after, false, 0);
+    match part {
+        [] => places(after, false, 0),
+        [b'e' | b'E', tail @ ..] => {
+            let (negative, size) = sign_and_size(tail);
+            places(after, negative, number(size)?)
+        }
+        _ => None,
     }
-    if !is_marked(part) {
-        return None;
-    }
-    let tail = &part[1..];
-    let size = number(without_sign(tail))?;
-    places(after, begins_with(tail, b'-'), size)
 }
 
 /// The number with the digits after a point at the front of a text, and what follows them.
 fn past_point(text: &[u8], number: u64) -> Option<(u64, &[u8])>
     ensures { option_map (λ (p : ℕ × Bor (List ℕ)). (p.0, p.1.now)) result ≡ past_point number text.now }
 {
-    if !begins_with(text, b'.') {
-        return Some((number, text));
+    match text {
+        [b'.', fraction @ ..] => digits(fraction, number),
+        _ => Some((number, text)),
     }
-    digits(&text[1..], number)
 }
 
 /// What a text without its minus sign says, with that sign or without.
@@ -104,8 +84,11 @@ fn scan(text: &[u8], negative: bool) -> Option<Scaled>
 {
     let (whole, after) = digits(text, 0)?;
     let (w, rest) = past_point(after, whole)?;
+    if w >= TOO_LARGE {
+        return None;
+    }
     let fraction = (after.len() - rest.len()).saturating_sub(1);
-    if w >= TOO_LARGE || text.len() - after.len() + fraction == 0 {
+    if text.len() - after.len() + fraction == 0 {
         return None;
     }
     let k = power_under(fraction, rest)?;
@@ -116,10 +99,9 @@ fn scan(text: &[u8], negative: bool) -> Option<Scaled>
 fn read(text: &[u8]) -> Option<Scaled>
     ensures { result ≡ decimal_of text.now }
 {
-    if begins_with(text, b'-') {
-        scan(&text[1..], true)
-    } else {
-        scan(text, false)
+    match text {
+        [b'-', size @ ..] => scan(size, true),
+        _ => scan(text, false),
     }
 }
 

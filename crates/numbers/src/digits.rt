@@ -10,8 +10,7 @@ fn with_digit(number: u64, byte: u8) -> Option<u64>
     requires { (48 ≤ byte) × (byte ≤ 57) }
     ensures { result ≡ below (2 ^ 64) (number * 10 + (byte - 48)) }
 {
-    let tenfold = number.checked_mul(10)?;
-    tenfold.checked_add(u64::from(byte - b'0'))
+    number.checked_mul(10)?.checked_add(u64::from(byte - b'0'))
 }
 
 /// The number that the digits at the front of a text write after those of `number`, and what follows
@@ -20,13 +19,12 @@ pub(crate) fn digits(text: &[u8], number: u64) -> Option<(u64, &[u8])>
     ensures { option_map (λ (p : ℕ × Bor (List ℕ)). (p.0, p.1.now)) result ≡ front number text.now }
 {
     let mut sum = number;
-    for (index, byte) in text.iter().enumerate() {
-        if !byte.is_ascii_digit() {
-            return Some((sum, &text[index..]));
-        }
+    let mut rest = text;
+    while let [byte @ b'0'..=b'9', after @ ..] = rest {
         sum = with_digit(sum, *byte)?;
+        rest = after;
     }
-    Some((sum, &text[text.len()..]))
+    Some((sum, rest))
 }
 
 /// The number that a text of digits writes, where it fits 64 bits.
@@ -34,8 +32,5 @@ pub(crate) fn number(text: &[u8]) -> Option<u64>
     ensures { result ≡ whole_number (2 ^ 64) text.now }
 {
     let (sum, rest) = digits(text, 0)?;
-    if text.is_empty() || !rest.is_empty() {
-        return None;
-    }
-    Some(sum)
+    (!text.is_empty() && rest.is_empty()).then_some(sum)
 }

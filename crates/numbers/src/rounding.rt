@@ -5,6 +5,8 @@ ghost use Rattle.std.specs.Float.Ieee.{round};
 ghost use Rattle.std.specs.Float.Ieee.Exact.{HasValue};
 ghost use Rattle.std.specs.Float.Ieee.Nearest.{closest};
 
+use std::cmp::Ordering;
+
 /// The powers of ten up to 10^18, each of which binary64 has.
 const POWERS: [f64; 19] = [
     1e0, 1e1, 1e2, 1e3, 1e4, 1e5, 1e6, 1e7, 1e8, 1e9, 1e10, 1e11, 1e12, 1e13, 1e14, 1e15, 1e16,
@@ -12,19 +14,19 @@ const POWERS: [f64; 19] = [
 ];
 
 /// 2^53: up to here binary64 has every whole number.
-const EXACT: u64 = 0x20_0000_0000_0000;
+const EXACT: u64 = 1 << 53;
 
 /// 2^53, the first number with more binary digits than a binary64 keeps.
-const TOO_LONG: u128 = 0x20_0000_0000_0000;
+const TOO_LONG: u128 = 1 << 53;
 
 /// 2^60, more than any power of ten here.
-const RAISED: u128 = 0x1000_0000_0000_0000;
+const RAISED: u128 = 1 << 60;
 
 /// A number that is raised by 2^60 counts 2^1014 of the smallest values of binary64, which are 2^-1074.
 const RAISED_EXPONENT: u64 = 1014;
 
 /// 2^52, the unit of the exponent in the bits of a binary64.
-const EXPONENT_UNIT: u64 = 0x10_0000_0000_0000;
+const EXPONENT_UNIT: u64 = 1 << 52;
 
 /// A power of ten as a binary64.
 fn power_of_ten(k: usize) -> f64
@@ -50,6 +52,7 @@ fn doubled(dividend: u128, divisor: u128) -> (u128, u64)
     ensures least { result.0 * 2 ^ 52 ≤ dividend }
     ensures most { dividend < result.0 * 2 ^ 53 }
 {
+    // A count by `leading_zeros` can be one too many, and would need the test of this loop as well.
     let mut unit = divisor;
     let mut count = 0;
     while unit * TOO_LONG <= dividend {
@@ -66,12 +69,10 @@ fn quotient(dividend: u128, divisor: u128) -> u64
 {
     let whole = (dividend / divisor) as u64;
     let twice = dividend % divisor * 2;
-    if twice < divisor {
-        whole
-    } else if twice == divisor {
-        whole + whole % 2
-    } else {
-        whole + 1
+    match twice.cmp(&divisor) {
+        Ordering::Less => whole,
+        Ordering::Equal => whole + whole % 2,
+        Ordering::Greater => whole + 1,
     }
 }
 
@@ -81,8 +82,8 @@ fn by_long_division(w: u64, power: u64) -> f64
     requires { (2 ^ 53 < w) × (w < 2 ^ 60) × (0 < power) × (power < 2 ^ 60) }
     ensures { result ≡ round binary64 false w power }
 {
-    let dividend = w as u128 * RAISED;
-    let (unit, count) = doubled(dividend, power as u128);
+    let dividend = u128::from(w) * RAISED;
+    let (unit, count) = doubled(dividend, u128::from(power));
     let digits = quotient(dividend, unit);
     f64::from_bits((RAISED_EXPONENT + count) * EXPONENT_UNIT + digits)
 }

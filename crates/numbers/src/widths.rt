@@ -1,22 +1,23 @@
 //! The types of whole number that an attribute may be read as.
-ghost use Rattle.std.specs.Prelude.{◌≡◌, ℕ, ◌^◌, ◌≤◌};
+ghost use Rattle.std.specs.Prelude.{◌≡◌, ℕ, ◌^◌, ◌≤◌, Result};
 ghost use Rattle.std.specs.Option.{option_map};
+ghost use Rattle.std.specs.Result.{result_ok};
 ghost use Rattle.numbers.specs.Numerals.{below};
+ghost use Rattle.numbers.specs.Widths.{narrows_to};
 ghost use Rattle.std.proofs.Common.{lit≤};
 
 /// A type of whole number that an attribute may be read as.
-pub trait Whole: Sized {
+pub trait Whole: TryFrom<u64, Error: Drop> {
     /// The number that a value is.
     ghost amount: { Self → ℕ };
 
     /// The first number that is too large for the type.
     ghost limit: { ℕ };
 
-    /// The value that is the number, where the type has one.
-    fn narrow(number: u64) -> Option<Self>
-        ensures { option_map amount result ≡ below limit number };
-
     ghost bounded: { limit ≤ 2 ^ 64 };
+
+    /// What a number converts into is the value that is the number, where the type has one.
+    ghost narrows: { (n : ℕ) (r : Result Self Self.Error) → Self.try_from_gives n r → option_map amount (result_ok r) ≡ below limit n };
 }
 
 impl Whole for u8 {
@@ -26,13 +27,7 @@ impl Whole for u8 {
 
     ghost bounded = { lit≤ tt };
 
-    fn narrow(number: u64) -> Option<u8> {
-        if number < 0x100 {
-            Some(number as u8)
-        } else {
-            None
-        }
-    }
+    ghost narrows = { narrows_to 8 };
 }
 
 impl Whole for u16 {
@@ -42,13 +37,7 @@ impl Whole for u16 {
 
     ghost bounded = { lit≤ tt };
 
-    fn narrow(number: u64) -> Option<u16> {
-        if number < 0x1_0000 {
-            Some(number as u16)
-        } else {
-            None
-        }
-    }
+    ghost narrows = { narrows_to 16 };
 }
 
 impl Whole for u32 {
@@ -58,13 +47,7 @@ impl Whole for u32 {
 
     ghost bounded = { lit≤ tt };
 
-    fn narrow(number: u64) -> Option<u32> {
-        if number < 0x1_0000_0000 {
-            Some(number as u32)
-        } else {
-            None
-        }
-    }
+    ghost narrows = { narrows_to 32 };
 }
 
 impl Whole for usize {
@@ -74,7 +57,5 @@ impl Whole for usize {
 
     ghost bounded = { lit≤ tt };
 
-    fn narrow(number: u64) -> Option<usize> {
-        Some(number as usize)
-    }
+    ghost narrows = { narrows_to 64 };
 }

@@ -1,4 +1,3 @@
-pub mod Digits
 pub mod Names
 pub mod Pieces
 pub mod Reading

@@ -101,11 +101,6 @@ step b = record { begins = b; room = begins_room b; falls = begins_falls b }
 pub first_split : {raw whole left after : List ℕ} (c : ℕ) → whole ≡ raw → whole ≡ encode c ++ left → after ≡ left → raw ≡ encode c ++ after
 first_split c a b e = sym a ∙ (b ∙ ap (λ l. encode c ++ l) (sym e))
 
--- a step over a character that stands for itself
-pub step_itself : (raw rest : List ℕ) (c : ℕ) → scalar c ≡ true → raw ≡ encode c ++ rest → (c ≡ 38 → ⊥) → Step raw c rest
-step_itself raw rest c is_scalar split plain =
-    step (record { piece = encode c; split = split; stands = inl (record { scalar_value = is_scalar; plain = plain; encoded = refl }) })
-
 ampersand : (raw after : List ℕ) (c : ℕ) → raw ≡ encode c ++ after → c ≡ 38 → raw ≡ 38 ∷ after
 unfolding encode
 ampersand raw after c split is = split ∙ ap (λ d. encode d ++ after) is

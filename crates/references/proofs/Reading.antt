@@ -1,33 +1,25 @@
--- Reading a raw text character by character. A loop over the next character keeps `Reads raw done rest`: it begins with
--- `reads_none`, goes on with `reads_more`, and ends with `reads_all` or `reads_stuck`.
-use Rattle.std.proofs.Common.{◌≡◌, ℕ, ◌<◌, true, List, [], ◌∷◌, ◌++◌, length, Some, None, Ok, IsUtf8, Option, sym, refl, ap, ◌∙◌, subst, arith}
+-- Reading a raw text character by character. A loop over the next character keeps `Reads raw done rest`: it goes on with
+-- `reads_more`, and where it is stuck there is `reads_stuck`.
+use Rattle.std.proofs.Common.{◌≡◌, ℕ, ◌<◌, true, List, [], ◌∷◌, ◌++◌, length, Ok, IsUtf8, Err, Option, Result, sym, refl, ap, ◌∙◌, subst, arith}
 use lib.Utf8.{scalars}
 use Rattle.std.proofs.lemmas.List.{append-nil}
 use Rattle.std.proofs.lemmas.Bool.{and_from}
 use Rattle.std.proofs.lemmas.Str.{IsUtf8-append, IsUtf8-nil}
+use Rattle.std.specs.Result.{IsOk}
+use Rattle.references.specs.declared.refusals.Malformed.{Malformed}
 use Rattle.references.specs.Decoding.{Begins, Reads, Decodes, NoPiece, Laws}
-use Rattle.references.specs.Answers.{Undecodable, Next, Step}
+use Rattle.references.specs.Answers.{Undecodable, Next}
 use Rattle.references.proofs.Pieces.{begins_one, begins_falls, piece_scalar, piece_text}
 
--- what the next character's contract says, where a `?` and then a `match` or a `while let` took the answer apart
-pub next_some : (rest rest' : List ℕ) (o : Option ℕ) (c : ℕ) → o ≡ Some c → Next rest (Ok o) rest' → Step rest c rest'
-next_some rest rest' o c e h = subst (λ x. Next rest (Ok x) rest') e h
-
-pub next_none : (rest rest' : List ℕ) (o : Option ℕ) → o ≡ None → Next rest (Ok o) rest' → (rest ≡ []) × (rest' ≡ [])
-next_none rest rest' o e h = subst (λ x. Next rest (Ok x) rest') e h
-
--- nothing is read yet
-pub reads_none : (raw : List ℕ) → Reads raw [] raw
-reads_none raw = refl
+-- a call is not refused, where a piece stands next or nothing is left
+pub next_ok : (rest rest' : List ℕ) (r : Result (Option ℕ) Malformed) → Next rest r rest' → (0 < length rest → NoPiece rest → ⊥) → IsOk r
+next_ok rest rest' (Ok o) h never = refl
+next_ok rest rest' (Err e) h never = absurd (never h.0 h.1)
 
 -- one character more is read
 pub reads_more : (raw cs rest rest' : List ℕ) (c : ℕ) → Reads raw cs rest → Begins rest c rest' → Reads raw (cs ++ (c ∷ [])) rest'
 reads_more raw [] rest rest' c r b = (rest', subst (λ l. Begins l c rest') (sym r) b, refl)
 reads_more raw (d ∷ cs) rest rest' c r b = (r.0, r.1, reads_more r.0 cs rest rest' c r.2 b)
-
--- all is read
-pub reads_all : (raw cs rest : List ℕ) → Reads raw cs rest → rest ≡ [] → Decodes raw cs
-reads_all raw cs rest r e = subst (λ l. Reads raw cs l) e r
 
 -- if the whole decodes, what is left decodes into the characters that are left
 pub reads_rest : (raw cs rest ds : List ℕ) → Reads raw cs rest → Decodes raw ds → (es : List ℕ) × (ds ≡ cs ++ es) × Decodes rest es

@@ -17,14 +17,14 @@ impl<'t> Characters<'t> {
     pub fn over(raw: &'t [u8]) -> Result<Characters<'t>, Malformed>
         ensures { MatchResult result (λ x. (x.rest.now ≡ raw.now) × IsUtf8 raw.now) (λ _. IsUtf8 raw.now → ⊥) }
     {
-        match std::str::from_utf8(raw) {
-            Ok(rest) => Ok(Characters { rest }),
-            Err(_) => Err(Malformed),
-        }
+        let rest = std::str::from_utf8(raw).map_err(|_| Malformed)?;
+        Ok(Characters { rest })
     }
 
     /// The next character, or none at the end. Refused where an `&` begins no reference, and then
     /// nothing moves.
+    // A method, and not an `Iterator`: a refused call moves nothing, so as one it would never end.
+    #[tactic(auto, using(crate::proofs::Reading::laws))]
     pub fn next(&mut self) -> Result<Option<char>, Malformed>
         ensures next { Next self.old.rest.now result self.new.rest.now }
         ensures laws { Laws }
@@ -38,9 +38,7 @@ impl<'t> Characters<'t> {
             self.rest = after;
             return Ok(Some(first));
         }
-        let Some((character, rest)) = reference(after) else {
-            return Err(Malformed);
-        };
+        let (character, rest) = reference(after).ok_or(Malformed)?;
         self.rest = rest;
         Ok(Some(character))
     }

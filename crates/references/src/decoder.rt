@@ -1,4 +1,5 @@
-//! Decoding a part of a text into a buffer: a first pass checks and counts, a second writes.
+//! Decoding a part of a text into a buffer: a first pass checks and counts, a second writes, so that
+//! nothing is written where a part is refused.
 ghost use Rattle.std.specs.Prelude.{◌≡◌, ℕ, ◌+◌, ◌<◌, ◌≤◌, List, ◌++◌, length, take, drop, MatchOption, MatchResult};
 ghost use Rattle.std.proofs.Math.Utf8.{encode};
 ghost use Rattle.references.specs.Answers.{Decoded, Sized, Undecodable, Within, Written, part};
@@ -20,12 +21,12 @@ fn decoded_size(raw: &[u8]) -> Result<usize, Malformed>
 }
 
 /// Whether every character of the raw text can be read: to check a part without writing it.
+#[tactic(auto, using(crate::proofs::Reading::laws))]
 pub fn check(raw: &[u8]) -> Result<(), Malformed>
     ensures decides { MatchResult result (λ _. (cs : List ℕ) × Decodes raw.now cs) (λ _. Undecodable raw.now) }
     ensures laws { Laws }
 {
-    decoded_size(raw)?;
-    Ok(())
+    decoded_size(raw).map(|_| ())
 }
 
 /// Writes the bytes of a character from that place on.
@@ -33,6 +34,7 @@ fn write_character(buffer: &mut [u8], place: usize, character: char)
     requires { place + length (encode character) ≤ length buffer.old }
     ensures { buffer.new ≡ take place buffer.old ++ (encode character ++ drop (place + length (encode character)) buffer.old) }
 {
+    // By way of an array: the contract of `encode_utf8` leaves open what becomes of a buffer's other bytes.
     let mut memory = [0; 4];
     let bytes = character.encode_utf8(&mut memory).as_bytes();
     buffer[place..place + bytes.len()].copy_from_slice(bytes);
@@ -43,17 +45,9 @@ fn write(raw: &[u8], buffer: &mut [u8])
     requires { (n : ℕ) × Sized raw.now n × (n ≤ length buffer.old) }
     ensures { (n : ℕ) → Sized raw.now n → Written raw.now buffer.old buffer.new n }
 {
-    let Ok(mut characters) = Characters::over(raw) else {
-        unreachable()
-    };
+    let mut characters = Characters::over(raw).unwrap();
     let mut place = 0;
-    loop {
-        let Ok(next) = characters.next() else {
-            unreachable()
-        };
-        let Some(character) = next else {
-            return;
-        };
+    while let Some(character) = characters.next().unwrap() {
         write_character(buffer, place, character);
         place += character.len_utf8();
     }
@@ -63,16 +57,13 @@ fn write(raw: &[u8], buffer: &mut [u8])
 fn part_of(text: &[u8], place: usize, size: usize) -> Option<&[u8]>
     ensures { MatchOption result (Within text.now place size → ⊥) (λ x. Within text.now place size × (x.now ≡ part text.now place size)) }
 {
-    if place <= text.len() && size <= text.len() - place {
-        Some(&text[place..place + size])
-    } else {
-        None
-    }
+    text.get(place..)?.get(..size)
 }
 
 /// Writes the decoded bytes of a part of the text over the front of the buffer, and answers how many
 /// they are. Refused, with the buffer as it was, if the part does not lie within the text or is
 /// malformed, or else if the buffer is too short.
+#[tactic(auto, using(crate::proofs::Reading::laws))]
 pub fn decode(
     text: &[u8],
     place: usize,
@@ -82,12 +73,8 @@ pub fn decode(
     ensures decoded { Decoded text.now place size buffer.old result buffer.new }
     ensures laws { Laws }
 {
-    let Some(raw) = part_of(text, place, size) else {
-        return Err(DecodeRefusal::Malformed);
-    };
-    let Ok(needed) = decoded_size(raw) else {
-        return Err(DecodeRefusal::Malformed);
-    };
+    let raw = part_of(text, place, size).ok_or(Malformed)?;
+    let needed = decoded_size(raw)?;
     if buffer.len() < needed {
         return Err(DecodeRefusal::TooShort { needed });
     }

@@ -1,11 +1,7 @@
 //! References: an entity's name or a character's number, between `&` and `;`.
-ghost use Rattle.std.specs.Prelude.{◌≡◌, ℕ, ◌+◌, ◌*◌, ◌<◌, ◌≤◌, min, ◌⊎◌, List, ◌++◌, codes, MatchOption};
+ghost use Rattle.std.specs.Prelude.{◌≡◌, ℕ, ◌⊎◌, List, ◌++◌, codes, MatchOption};
 ghost use Rattle.std.specs.Option.{SomeIff};
-ghost use Rattle.std.specs.Char.{digit_value};
 ghost use Rattle.references.specs.Xml.{Char, Entity, Means, Numbered, Refers};
-
-/// Past every character: a larger number is kept as this one, which is no character either.
-const PAST_EVERY_CHARACTER: u32 = 0x110000;
 
 /// The character of that number, if a document may have it.
 fn allowed(code: u32) -> Option<char>
@@ -19,32 +15,19 @@ fn allowed(code: u32) -> Option<char>
     }
 }
 
-/// The number with one more digit, up to the one past every character; none if the byte is no digit.
-fn with_digit(number: u32, radix: u32, byte: u8) -> Option<u32>
-    requires small { number ≤ 0x110000 }
-    requires radix { (radix ≡ 10) ⊎ (radix ≡ 16) }
-    ensures { SomeIff result (digit_value byte < radix) (min (number * radix + digit_value byte) 0x110000) }
-{
-    let digit = (byte as char).to_digit(radix)?;
-    Some((number * radix + digit).min(PAST_EVERY_CHARACTER))
-}
-
 /// The character whose number the digits are.
-fn numbered(digits: &[u8], radix: u32) -> Option<char>
+fn numbered(digits: &str, radix: u32) -> Option<char>
     requires { (radix ≡ 10) ⊎ (radix ≡ 16) }
     ensures { MatchOption result ((c : ℕ) → Numbered radix digits.now c → ⊥) (λ c. Numbered radix digits.now c) }
 {
-    if digits.is_empty() {
+    if digits.starts_with('+') {
         return None;
     }
-    let mut number = 0;
-    for byte in digits {
-        number = with_digit(number, radix, *byte)?;
-    }
-    allowed(number)
+    allowed(u32::from_str_radix(digits, radix).ok()?)
 }
 
 /// The character of the entity of that name.
+#[tactic(auto, using(crate::specs::Xml::lt, crate::specs::Xml::gt, crate::specs::Xml::amp, crate::specs::Xml::apos, crate::specs::Xml::quot))]
 fn entity(name: &str) -> Option<char>
     ensures { MatchOption result ((c : ℕ) → Entity name.now c → ⊥) (λ c. Entity name.now c) }
 {
@@ -63,8 +46,8 @@ fn by_number(number: &str) -> Option<char>
     ensures { MatchOption result ((c : ℕ) → Means (codes "#" ++ number.now) c → ⊥) (λ c. Means (codes "#" ++ number.now) c) }
 {
     match number.strip_prefix('x') {
-        Some(digits) => numbered(digits.as_bytes(), 16),
-        None => numbered(number.as_bytes(), 10),
+        Some(digits) => numbered(digits, 16),
+        None => numbered(number, 10),
     }
 }
 

@@ -1,15 +1,17 @@
 //! How decoding refuses.
 ghost use Rattle.std.specs.Prelude.{◌≡◌, Some};
+ghost use Rattle.references.specs.declared.refusals.DecodeRefusal.TheVariants as refusals;
 ghost use Rattle.references.specs.Answers.{malformed_number, malformed_text, decode_number, decode_text};
 
+use std::error::Error;
 use std::fmt;
 
 /// The raw text is not UTF-8, or has an `&` that begins no reference to an allowed character.
-#[derive(Clone, Copy)]
+#[derive(Clone, Copy, Debug, PartialEq, Eq)]
 pub struct Malformed;
 
 /// Why decoding a part was refused.
-#[derive(Clone, Copy)]
+#[derive(Clone, Copy, Debug, PartialEq, Eq)]
 pub enum DecodeRefusal {
     /// The part does not lie within the text, or it is malformed.
     Malformed,
@@ -17,6 +19,7 @@ pub enum DecodeRefusal {
     TooShort { needed: usize },
 }
 
+// The refusals have numbers, for the project's rules name each by its number.
 impl Malformed {
     /// The number of the refusal.
     pub fn number(&self) -> u32
@@ -35,6 +38,14 @@ impl DecodeRefusal {
             DecodeRefusal::Malformed => 8,
             DecodeRefusal::TooShort { .. } => 14,
         }
+    }
+}
+
+impl From<Malformed> for DecodeRefusal {
+    ghost from_gives = { λ _ refusal. refusal ≡ refusals.Malformed };
+
+    fn from(_: Malformed) -> DecodeRefusal {
+        DecodeRefusal::Malformed
     }
 }
 
@@ -60,3 +71,7 @@ impl fmt::Display for DecodeRefusal {
         }
     }
 }
+
+impl Error for Malformed {}
+
+impl Error for DecodeRefusal {}

@@ -4,7 +4,6 @@ use Rattle.numbers.specs.Decimals.{scaled}
 use Rattle.numbers.specs.Fronts.{power_below}
 use Rattle.numbers.proofs.Scans.{large_whole, large_fraction, after_shorter, rest_shorter, large_number, no_figures, all_read}
 use Rattle.numbers.proofs.decimals.scan.Goals as goal
-use Rattle.numbers.proofs.decimals.scan.Goals.{then-w-ge-TOO_LARGE-via-then-w-ge-TOO_LARGE, then-w-ge-TOO_LARGE-via-else-w-ge-TOO_LARGE+then-text-after-eq0}
 
 pub returns-in_err-whole : goal.returns-in_err-whole
 returns-in_err-whole c = rw c.from_residual.ensures (large_whole c.args.negative c.args.text.now c.in_err-whole.ensures)
@@ -28,16 +27,17 @@ overflow_sub-text c =
 
 pub returns-then-w-ge-TOO_LARGE : goal.returns-then-w-ge-TOO_LARGE
 returns-then-w-ge-TOO_LARGE c =
-    let minus = c.args.negative in
+    let front = c.in_ok-whole in
+    let past = c.in_ok-w in
+    large_number c.args.negative c.args.text.now front.whole front.after.now front.ensures past.w past.rest.now past.ensures c.if-w-ge-TOO_LARGE.true
+
+pub returns-then-text-after-eq0 : goal.returns-then-text-after-eq0
+returns-then-text-after-eq0 c =
     let text = c.args.text.now in
     let front = c.in_ok-whole in
     let past = c.in_ok-w in
-    elim c.then-w-ge-TOO_LARGE.branch [
-      | then-w-ge-TOO_LARGE-via-then-w-ge-TOO_LARGE w ↦ large_number minus text front.whole front.after.now front.ensures past.w past.rest.now past.ensures w.if-w-ge-TOO_LARGE.true
-      | then-w-ge-TOO_LARGE-via-else-w-ge-TOO_LARGE+then-text-after-eq0 w ↦
-          no_figures minus text front.whole front.after.now front.ensures past.w past.rest.now past.ensures
-          (ap (λ (k : ℕ). length text - length front.after.now + k) (sym c.saturating_sub-fraction.ensures) ∙ w.if-text-after-eq0.true)
-    ]
+    no_figures c.args.negative text front.whole front.after.now front.ensures past.w past.rest.now past.ensures
+    (ap (λ (k : ℕ). length text - length front.after.now + k) (sym c.saturating_sub-fraction.ensures) ∙ c.if-text-after-eq0.true)
 
 pub returns-in_err-k : goal.returns-in_err-k
 returns-in_err-k c =

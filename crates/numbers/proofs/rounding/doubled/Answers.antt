@@ -15,10 +15,5 @@ loop-unit-preserved c =
       omega arith,
     )
 
-pub returns : goal.returns
-returns c = record {
-  times = c.loop-unit.invariant.1;
-  few = few_doublings c.loop-unit.count c.loop-unit.unit c.args.dividend c.loop-unit.invariant.2 c.loop-unit.invariant.3 c.requires.2;
-  least = c.loop-unit.invariant.3;
-  most = omega arith;
-}
+pub returns-clause-few : goal.returns-clause-few
+returns-clause-few c = few_doublings c.loop-unit.count c.loop-unit.unit c.args.dividend c.loop-unit.invariant.2 c.loop-unit.invariant.3 c.requires.2

@@ -4,6 +4,3 @@ use Rattle.numbers.proofs.rounding.nearest.Goals as goal
 
 pub by_long_division-requires : goal.by_long_division-requires
 by_long_division-requires c = (omega arith, omega arith, omega (arith, power_pos c.args.k), omega (arith, power_le c.args.k c.requires.1))
-
-pub pow-requires : goal.pow-requires
-pow-requires c = omega (arith, power_le c.args.k c.requires.1)

@@ -1,6 +1,6 @@
 use Rattle.std.proofs.lemmas.Result.{err_from_is_err_and}
 use Rattle.references.proofs.Passes.{counted_more, counted_stuck}
-use Rattle.references.proofs.Reading.{decodes_text, next_some}
+use Rattle.references.proofs.Reading.{decodes_text}
 use Rattle.references.proofs.decoder.decoded_size.Goals as goal
 
 pub returns-in_err-characters : goal.returns-in_err-characters
@@ -11,10 +11,8 @@ returns-in_err-characters c =
 pub returns-in_err-character : goal.returns-in_err-character
 returns-in_err-character c =
     let p = err_from_is_err_and c.from_residual-in_err-character.result c.from_residual-in_err-character.ensures.1 in
-    rw p.1 (counted_stuck c.args.raw.now c.loop-character.characters.rest.now c.loop-character.size c.loop-character.invariant c.in_err-character.ensures.next.0 c.in_err-character.ensures.next.1)
+    rw p.1 (counted_stuck c.loop-character.invariant c.in_err-character.ensures.next.0 c.in_err-character.ensures.next.1)
 
 pub loop-character-preserved : goal.loop-character-preserved
 loop-character-preserved c =
-    counted_more c.args.raw.now c.loop-character.characters.rest.now c.next.new.self.rest.now c.loop-character.size c.in-Some.character c.len_utf8-size.result c.loop-character.invariant
-    (next_some c.loop-character.characters.rest.now c.next.new.self.rest.now c.in_ok-character.field-0 c.in-Some.character c.in-Some.is c.in_ok-character.ensures.next)
-    c.len_utf8-size.ensures.len
+    counted_more c.loop-character.invariant (rw c.in-Some.is at c.in_ok-character.ensures.next) c.len_utf8-size.ensures.len

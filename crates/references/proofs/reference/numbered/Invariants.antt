@@ -1,7 +1,0 @@
-use Rattle.std.proofs.Common.{◌≡◌, min, take}
-use Rattle.std.specs.Str.Parse.{digits_value, AllDigits}
-use Rattle.references.proofs.reference.numbered.Given as goal
-
--- the bytes so far are digits, and the number is their value, as far as the bound
-abbrev pub invariant-loop-byte : goal.invariant-loop-byte
-invariant-loop-byte l = AllDigits l.radix (take l.byte-index l.digits) × (l.number ≡ min (digits_value l.radix (take l.byte-index l.digits)) 0x110000)
