@@ -1,2 +1,3 @@
 mod Spelling
 mod Shorter
+mod Splits

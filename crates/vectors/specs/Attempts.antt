@@ -1,10 +1,13 @@
 -- What decoding into a buffer that was filled with one byte came to.
-use Rattle.std.specs.Prelude.{◌≡◌, ℕ, ◌<◌, ◌≤◌, List, length, Ok, Err, vec_items, slice_index}
-use Rattle.references.specs.Answers.{decode_number}
+use Rattle.std.specs.Prelude.{◌≡◌, ℕ, ◌<◌, ◌≤◌, List, ◌++◌, length, replicate, Ok, Err, codes, vec_items, slice_index}
+use Rattle.references.specs.Answers.{Decoded}
 use Rattle.references.specs.declared.refusals.DecodeRefusal.{DecodeRefusal}
-use Rattle.references.specs.declared.refusals.DecodeRefusal.TheVariants.{TooShort}
 use Rattle.vectors.specs.Fronts.{Starts}
 use Rattle.vectors.specs.declared.reference_texts.Attempt.{Attempt}
+
+-- the text, inside a larger one, was decoded into a buffer of that length
+abbrev pub Attempted : List ℕ → ℕ → Attempt → Type 0
+Attempted text size attempt = Decoded (codes "<a " ++ (text ++ codes "/>")) 3 (length text) (replicate size 0xA5) attempt.answer (vec_items attempt.buffer)
 
 -- from that index on, the buffer holds what it was filled with
 abbrev pub Untouched : List ℕ → ℕ → Type 0
@@ -16,14 +19,7 @@ pub record Wrote (text : List ℕ) (attempt : Attempt) : Type 0 where
   pub front : Starts (vec_items attempt.buffer) text
   pub rest : Untouched (vec_items attempt.buffer) (length text)
 
--- the part was refused with that number, and nothing was written
-pub record WasRefused (number : ℕ) (attempt : Attempt) : Type 0 where
-  pub refusal : DecodeRefusal
+-- the part was refused for that, and nothing was written
+pub record WasRefused (refusal : DecodeRefusal) (attempt : Attempt) : Type 0 where
   pub answer : attempt.answer ≡ Err refusal
-  pub number_is : decode_number refusal ≡ number
-  pub nothing : Untouched (vec_items attempt.buffer) 0
-
--- the buffer was refused as too short, with the size that is needed, and nothing was written
-pub record WasTooShort (size : ℕ) (attempt : Attempt) : Type 0 where
-  pub answer : attempt.answer ≡ Err (TooShort size)
   pub nothing : Untouched (vec_items attempt.buffer) 0

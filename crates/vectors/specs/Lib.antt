@@ -1,5 +1,7 @@
 pub mod Fields
 pub mod Widths
+pub mod Lines
+pub mod Answers
 pub mod Fronts
 pub mod Places
 pub mod Outcomes

@@ -1,6 +1,6 @@
 //! Texts as the vector file writes them: every byte outside `!`..`~`, and `%` and `|`, as `%XX`, an
 //! empty text as `-`.
-ghost use Rattle.std.specs.Prelude.{◌≡◌, ◌+◌, ◌*◌, ◌<◌, IfSome, IfOk};
+ghost use Rattle.std.specs.Prelude.{◌≡◌, ℕ, ◌+◌, ◌*◌, ◌<◌, List, MatchOption, IfOk};
 ghost use Rattle.std.specs.Option.{SomeIff};
 ghost use Rattle.std.specs.Char.{digit_value};
 ghost use Rattle.vectors.specs.Fields.{Begins, FieldOf, plain};
@@ -9,6 +9,7 @@ use std::alloc::{AllocError, Global};
 use std::fmt;
 
 /// The number that two hexadecimal digits write.
+// No `from_str_radix`: it reads a `&str`, and a sign for the first digit.
 fn two_digits(high: u8, low: u8) -> Option<u8>
     ensures { SomeIff result ((digit_value high < 16) × (digit_value low < 16)) (digit_value high * 16 + digit_value low) }
 {
@@ -19,54 +20,54 @@ fn two_digits(high: u8, low: u8) -> Option<u8>
 
 /// The first byte that a field writes, and the rest of the field.
 fn first_byte(field: &[u8]) -> Option<(u8, &[u8])>
-    ensures { IfSome result (λ p. Begins field.now p.0 p.1.now) }
+    ensures { MatchOption result ((byte : ℕ) (rest : List ℕ) → Begins field.now byte rest → ⊥) (λ p. Begins field.now p.0 p.1.now) }
 {
-    if field.is_empty() {
-        return None;
+    match field {
+        [b'%', high, low, rest @ ..] => Some((two_digits(*high, *low)?, rest)),
+        [] | [b'%', ..] => None,
+        [byte, rest @ ..] => Some((*byte, rest)),
     }
-    if field[0] != b'%' {
-        return Some((field[0], &field[1..]));
-    }
-    if field.len() < 3 {
-        return None;
-    }
-    let byte = two_digits(field[1], field[2])?;
-    Some((byte, &field[3..]))
 }
 
 /// The text that a field writes; none where a `%` is not followed by two digits.
 pub fn decoded(heap: Global, field: &str) -> Result<Option<Vec<u8>>, AllocError>
-    ensures { IfOk result (λ o. IfSome o (λ text. FieldOf field.now text.items)) }
+    ensures { IfOk result (λ o. MatchOption o ((text : List ℕ) → FieldOf field.now text → ⊥) (λ text. FieldOf field.now text.items)) }
 {
     let mut text = Vec::new(heap);
     if field == "-" {
         return Ok(Some(text));
     }
     let mut rest = field.as_bytes();
-    while !rest.is_empty() {
-        let Some((byte, after)) = first_byte(rest) else {
-            return Ok(None);
-        };
+    while let Some((byte, after)) = first_byte(rest) {
         text.push(byte)?;
         rest = after;
     }
-    Ok(Some(text))
+    Ok(rest.is_empty().then_some(text))
 }
 
 /// Whether a text shows a byte as it is.
 fn is_plain(byte: u8) -> bool
     ensures { result ≡ plain byte }
 {
-    byte >= b'!' && byte <= b'~' && byte != b'%' && byte != b'|'
+    byte.is_ascii_graphic() && !matches!(byte, b'%' | b'|')
 }
 
-/// Writes a byte.
-fn show<W: fmt::Write>(byte: u8, plain: bool, f: &mut fmt::Formatter<W>) -> fmt::Result {
-    if plain {
-        f.write_char(byte as char)
-    } else {
-        write!(f, "%{byte:02X}")
+/// Writes bytes, those that pass the test as they are.
+fn show<W: fmt::Write, F: Fn(u8) -> bool>(
+    bytes: &[u8],
+    is_shown: F,
+    f: &mut fmt::Formatter<W>,
+) -> fmt::Result
+    requires { F.IsAlwaysCallable is_shown }
+{
+    for byte in bytes {
+        if is_shown(*byte) {
+            f.write_char(*byte as char)?;
+        } else {
+            write!(f, "%{byte:02X}")?;
+        }
     }
+    Ok(())
 }
 
 /// A key or a value, written as a part of an answer: `=` as `%3D` too.
@@ -75,10 +76,7 @@ pub struct Part<'t>(pub &'t [u8]);
 
 impl fmt::Display for Part<'_> {
     fn fmt<W: fmt::Write>(&self, f: &mut fmt::Formatter<W>) -> fmt::Result {
-        for byte in self.0 {
-            show(*byte, is_plain(*byte) && *byte != b'=', f)?;
-        }
-        Ok(())
+        show(self.0, |byte| is_plain(byte) && byte != b'=', f)
     }
 }
 
@@ -92,12 +90,7 @@ impl fmt::Display for Whole<'_> {
             [] => f.write_str("-"),
             [b'-'] => f.write_str("%2D"),
             [b'='] => f.write_str("%3D"),
-            _ => {
-                for byte in self.0 {
-                    show(*byte, is_plain(*byte), f)?;
-                }
-                Ok(())
-            }
+            bytes => show(bytes, is_plain, f),
         }
     }
 }

@@ -1,8 +1,10 @@
 //! A line of the vector file.
-ghost use Rattle.std.specs.Prelude.{◌≡◌, IfSome};
-ghost use Rattle.vectors.specs.Widths.{width_word};
+ghost use Rattle.std.specs.Prelude.{◌≡◌, ◌∷◌, ◌++◌, Some, IfSome, codes};
+ghost use Rattle.vectors.specs.Widths.{WidthOf, width_word};
+ghost use Rattle.vectors.specs.Lines.{family_words};
 
 use std::fmt;
+use std::str::FromStr;
 
 /// How many bits a whole number has.
 #[derive(Clone, Copy, PartialEq, Eq)]
@@ -12,6 +14,10 @@ pub enum Width {
     Bits32,
     Bits64,
 }
+
+/// A word that says no width.
+#[derive(Clone, Copy, PartialEq, Eq)]
+pub struct NoWidth;
 
 /// What is asked of the texts of a line.
 #[derive(Clone, Copy, PartialEq, Eq)]
@@ -34,21 +40,27 @@ pub struct Line<'l> {
     pub answer: &'l str,
 }
 
-/// The width that a word of the file says.
-fn width_of(word: &str) -> Option<Width>
-    ensures { IfSome result (λ width. word.now ≡ width_word width) }
-{
-    match word {
-        "8" => Some(Width::Bits8),
-        "16" => Some(Width::Bits16),
-        "32" => Some(Width::Bits32),
-        "64" => Some(Width::Bits64),
-        _ => None,
+impl FromStr for Width {
+    type Err = NoWidth;
+
+    ghost from_str_gives = { WidthOf };
+
+    fn from_str(word: &str) -> Result<Width, NoWidth> {
+        match word {
+            "8" => Ok(Width::Bits8),
+            "16" => Ok(Width::Bits16),
+            "32" => Ok(Width::Bits32),
+            "64" => Ok(Width::Bits64),
+            _ => Err(NoWidth),
+        }
     }
 }
 
 /// The family that a line begins with, and the texts after it.
-fn family_of(front: &str) -> Option<(Family, &str)> {
+// No `FromStr`: the texts follow the family, of which they are no part.
+fn family_of(front: &str) -> Option<(Family, &str)>
+    ensures { IfSome result (λ p. front.now ≡ family_words p.0 ++ 32 ∷ p.1.now) }
+{
     let (word, rest) = front.split_once(' ')?;
     match word {
         "items" => Some((Family::Items, rest)),
@@ -56,8 +68,7 @@ fn family_of(front: &str) -> Option<(Family, &str)> {
         "decode" => Some((Family::Decode, rest)),
         "whole" => {
             let (bits, texts) = rest.split_once(' ')?;
-            let width = width_of(bits)?;
-            Some((Family::Whole(width), texts))
+            Some((Family::Whole(bits.parse().ok()?), texts))
         }
         _ => None,
     }
@@ -65,7 +76,10 @@ fn family_of(front: &str) -> Option<(Family, &str)> {
 
 impl<'l> Line<'l> {
     /// The parts of a line; none where it has another form.
-    pub fn read(line: &'l str) -> Option<Line<'l>> {
+    // No `TryFrom`: there is nothing to say of a line of another form but that it is one.
+    pub fn read(line: &'l str) -> Option<Line<'l>>
+        ensures { IfSome result (λ parts. line.now ≡ family_words parts.family ++ 32 ∷ (parts.texts.now ++ 32 ∷ parts.answer.now)) }
+    {
         let (front, answer) = line.rsplit_once(' ')?;
         let (family, texts) = family_of(front)?;
         Some(Line {
@@ -76,16 +90,28 @@ impl<'l> Line<'l> {
     }
 }
 
-impl fmt::Display for Family {
+impl fmt::Display for Width {
+    ghost output = { λ width. Some (width_word width) };
+
     fn fmt<W: fmt::Write>(&self, f: &mut fmt::Formatter<W>) -> fmt::Result {
         f.write_str(match *self {
-            Family::Items => "items",
-            Family::Decimal => "decimal",
-            Family::Whole(Width::Bits8) => "whole 8",
-            Family::Whole(Width::Bits16) => "whole 16",
-            Family::Whole(Width::Bits32) => "whole 32",
-            Family::Whole(Width::Bits64) => "whole 64",
-            Family::Decode => "decode",
+            Width::Bits8 => "8",
+            Width::Bits16 => "16",
+            Width::Bits32 => "32",
+            Width::Bits64 => "64",
         })
+    }
+}
+
+impl fmt::Display for Family {
+    ghost output = { λ family. Some (family_words family) };
+
+    fn fmt<W: fmt::Write>(&self, f: &mut fmt::Formatter<W>) -> fmt::Result {
+        match *self {
+            Family::Items => f.write_str("items"),
+            Family::Decimal => f.write_str("decimal"),
+            Family::Whole(width) => write!(f, "whole {width}"),
+            Family::Decode => f.write_str("decode"),
+        }
     }
 }

@@ -11,10 +11,12 @@
 //!     decode TEXT.. ANSWER        the decoded text, = where that is the text itself, or refused
 #![tactic(auto)]
 
+ghost use Rattle.std.specs.Prelude.{◌≡◌};
+ghost use Rattle.vectors.specs.Counts.{NoneDiffers};
+
 mod attribute_texts;
 mod decimals;
 mod field;
-mod fronts;
 mod given;
 mod line;
 mod outcome;
@@ -28,14 +30,15 @@ use given::Given;
 use line::{Family, Line};
 use outcome::{Outcome, judged};
 use std::alloc::{AllocError, Global};
-use std::io;
 use std::io::{BufRead, BufReader};
+use std::{fmt, io};
 use tallies::Tallies;
 
 /// At most so many disagreements are shown.
 const SHOWN: u64 = 20;
 
 /// What our crates answer to a text of the family.
+// The heap is a parameter and no field: what allocates is passed its allocator, as in std.
 fn answered(heap: Global, family: Family, text: &[u8]) -> Result<Given, AllocError> {
     match family {
         Family::Items => attribute_texts::answered(heap, text),
@@ -45,62 +48,77 @@ fn answered(heap: Global, family: Family, text: &[u8]) -> Result<Given, AllocErr
     }
 }
 
-/// Compares one text of a line, and shows a disagreement.
-fn compare(
-    rt: &HostRuntime,
-    tallies: &mut Tallies,
-    line: &Line<'_>,
-    field: &str,
-) -> io::Result<()> {
-    let Some(text) = decoded(rt.alloc(), field)? else {
-        return misread(rt, tallies, field);
-    };
-    let given = answered(rt.alloc(), line.family, text.as_slice())?;
-    let outcome = judged(rt.alloc(), line.answer, &given)?;
-    tallies.note(line.family, outcome);
-    if outcome == Outcome::Differs && tallies.disagreed() <= SHOWN {
+/// The comparison so far, and where disagreements are shown.
+#[derive(Drop)]
+struct Comparison<'r> {
+    rt: &'r HostRuntime,
+    tallies: Tallies,
+}
+
+impl Comparison<'_> {
+    /// Shows a disagreement, if few enough were shown already.
+    fn show<D: fmt::Display + Drop>(&self, disagreement: D) -> io::Result<()> {
+        if self.tallies.disagreed() <= SHOWN {
+            self.rt.println(disagreement)?;
+        }
+        Ok(())
+    }
+
+    /// Notes, and shows, what is no line or no text.
+    fn misread(&mut self, part: &str) -> io::Result<()>
+        ensures { NoneDiffers self.new.tallies → ⊥ }
+    {
+        self.tallies.note_misread();
+        self.show(format_args!("not understood: {part}"))
+    }
+
+    /// Compares one text of a line.
+    fn text(&mut self, line: &Line<'_>, field: &str) -> io::Result<()>
+        ensures { NoneDiffers self.new.tallies → NoneDiffers self.old.tallies }
+    {
+        let heap = self.rt.alloc();
+        let Some(text) = decoded(heap, field)? else {
+            return self.misread(field);
+        };
+        let given = answered(heap, line.family, text.as_slice())?;
+        let outcome = judged(heap, line.answer, &given)?;
+        self.tallies.note(line.family, outcome);
+        if outcome != Outcome::Differs {
+            return Ok(());
+        }
         let family = line.family;
         let expected = line.answer;
         let came = given.words.as_str();
         let remark = given.remark();
-        println!(rt; "{family} {field}: expected {expected}, came {came}{remark}")?;
+        self.show(format_args!("{family} {field}: expected {expected}, came {came}{remark}"))
     }
-    Ok(())
-}
 
-/// Notes, and shows, what is no line or no text.
-fn misread(rt: &HostRuntime, tallies: &mut Tallies, part: &str) -> io::Result<()> {
-    tallies.note_misread();
-    if tallies.disagreed() <= SHOWN {
-        println!(rt; "not understood: {part}")?;
+    /// Compares the texts of a line.
+    fn line(&mut self, bytes: &[u8]) -> io::Result<()>
+        ensures { NoneDiffers self.new.tallies → NoneDiffers self.old.tallies }
+    {
+        let Ok(text) = std::str::from_utf8(bytes) else {
+            return self.misread("a line that is no UTF-8");
+        };
+        let Some(line) = Line::read(text) else {
+            return self.misread(text);
+        };
+        for field in line.texts.split(' ') {
+            self.text(&line, field)?;
+        }
+        Ok(())
     }
-    Ok(())
-}
-
-/// Compares the texts of a line.
-fn compare_line(rt: &HostRuntime, tallies: &mut Tallies, bytes: &[u8]) -> io::Result<()> {
-    let Ok(text) = std::str::from_utf8(bytes) else {
-        return misread(rt, tallies, "a line that is no UTF-8");
-    };
-    let Some(line) = Line::read(text) else {
-        return misread(rt, tallies, text);
-    };
-    for field in line.texts.split(' ') {
-        compare(rt, tallies, &line, field)?;
-    }
-    Ok(())
 }
 
 /// Compares every line of the input, and says what came of it.
-fn run(rt: &HostRuntime) -> io::Result<()> {
-    let mut tallies = Tallies::new();
-    for part in BufReader::new(rt.alloc(), rt.stdin())?.split(rt.alloc(), b'\n') {
-        let part = part?;
-        compare_line(rt, &mut tallies, part.as_slice())?;
-    }
-    println!(rt; "{tallies}")
-}
-
 fn main(rt: HostRuntime) -> io::Result<()> {
-    run(&rt)
+    let mut comparison = Comparison {
+        rt: &rt,
+        tallies: Tallies::default(),
+    };
+    for line in BufReader::new(rt.alloc(), rt.stdin())?.split(rt.alloc(), b'\n') {
+        let line = line?;
+        comparison.line(line.as_slice())?;
+    }
+    rt.println(comparison.tallies)
 }

@@ -2,8 +2,8 @@
 ghost use Rattle.std.specs.Prelude.{IfOk};
 ghost use Rattle.vectors.specs.Outcomes.{Justified, JustifiedRefusal};
 
-use crate::fronts::begins_with;
 use crate::given::{Given, Kind};
+use attrs::Flaw;
 use std::alloc::{AllocError, Global};
 
 /// How the answer to a text compares with what the vector file has.
@@ -16,25 +16,26 @@ pub enum Outcome {
     SameButFormFeeds,
     /// Both refuse.
     BothRefuse,
-    /// calamine gives items, and our check refuses with that number, as expected: calamine tests
-    /// neither keys nor closing quotes, nor what follows a value, nor repeated keys, and takes a form
-    /// feed for white space.
-    Departs(u32),
+    /// calamine gives items, and our check refuses for that, as expected: calamine tests neither keys
+    /// nor closing quotes, nor what follows a value, nor repeated keys, and takes a form feed for white
+    /// space.
+    Departs(Flaw),
     /// None of these.
     Differs,
 }
 
 /// How the refusal of an attribute text compares with the expected answer.
-fn judged_refusal(heap: Global, expected: &str, number: u32) -> Result<Outcome, AllocError>
-    ensures { IfOk result (λ outcome. JustifiedRefusal number expected.now outcome) }
+fn judged_refusal(heap: Global, expected: &str, flaw: Flaw) -> Result<Outcome, AllocError>
+    ensures { IfOk result (λ outcome. JustifiedRefusal flaw expected.now outcome) }
 {
+    let number = flaw.number();
     let with_error = format!(in heap; "error|{number}")?;
     if with_error.as_str() == expected {
         return Ok(Outcome::BothRefuse);
     }
     let with_items = format!(in heap; "|{number}|")?;
-    if begins_with(expected.as_bytes(), with_items.as_bytes()) {
-        return Ok(Outcome::Departs(number));
+    if expected.as_bytes().starts_with(with_items.as_bytes()) {
+        return Ok(Outcome::Departs(flaw));
     }
     Ok(Outcome::Differs)
 }
@@ -43,15 +44,12 @@ fn judged_refusal(heap: Global, expected: &str, number: u32) -> Result<Outcome, 
 pub fn judged(heap: Global, expected: &str, given: &Given) -> Result<Outcome, AllocError>
     ensures { IfOk result (λ outcome. Justified given.now expected.now outcome) }
 {
-    if !given.sound {
-        return Ok(Outcome::Differs);
-    }
     let same = given.words.as_str() == expected;
     match given.kind {
         Kind::Read if same => Ok(Outcome::Same),
         Kind::ReadWithFormFeed if same => Ok(Outcome::SameButFormFeeds),
         Kind::Refused if same => Ok(Outcome::BothRefuse),
-        Kind::Flawed(number) => judged_refusal(heap, expected, number),
+        Kind::Flawed(flaw) => judged_refusal(heap, expected, flaw),
         _ => Ok(Outcome::Differs),
     }
 }

@@ -1,12 +1,11 @@
 //! Texts with references.
-ghost use Rattle.std.specs.Prelude.{◌≡◌, true};
-ghost use Rattle.vectors.specs.Attempts.{Untouched, Wrote, WasTooShort, WasRefused};
+ghost use Rattle.std.specs.Prelude.{◌≡◌, length, IfOk, Decides, codes};
+ghost use Rattle.vectors.specs.Attempts.{Untouched, Wrote, WasRefused, Attempted};
 
 use crate::field::Whole;
-use crate::fronts::begins_with;
 use crate::given::{Given, Kind};
-use crate::surroundings::{PLACE, surrounded};
-use references::{DecodeRefusal, check, decode};
+use crate::surroundings::Surrounded;
+use references::{DecodeRefusal, check};
 use std::alloc::{AllocError, Global};
 
 /// What a buffer is filled with, to see what was written.
@@ -21,113 +20,100 @@ struct Attempt {
 
 impl Attempt {
     /// Decodes into a buffer of that length.
-    fn new(heap: Global, larger: &[u8], size: usize, length: usize) -> Result<Attempt, AllocError> {
+    fn new(heap: Global, text: &Surrounded<'_>, length: usize) -> Result<Attempt, AllocError>
+        ensures { IfOk result (λ attempt. Attempted text.now.text.now length attempt) }
+    {
         let mut buffer = vec![in heap; FILL; length]?;
-        let answer = decode(larger, PLACE, size, buffer.as_mut_slice());
+        let answer = text.decode(buffer.as_mut_slice());
         Ok(Attempt { answer, buffer })
     }
 
     /// Whether nothing is written from that index on.
     fn is_untouched_from(&self, index: usize) -> bool
-        ensures { result ≡ true → Untouched self.now.buffer.items index }
+        ensures { Decides result (Untouched self.now.buffer.items index) }
     {
-        let buffer = self.buffer.as_slice();
-        for place in index..buffer.len() {
-            if buffer[place] != FILL {
-                return false;
-            }
-        }
-        true
+        self.buffer.iter().skip(index).all(|byte| *byte == FILL)
     }
 
     /// Whether the text was written over the front, and nothing after it.
     fn wrote(&self, text: &[u8]) -> bool
-        ensures { result ≡ true → Wrote text.now self.now }
+        ensures { Decides result (Wrote text.now self.now) }
     {
-        match self.answer {
-            Ok(count) => {
-                if count != text.len() {
-                    return false;
-                }
-                begins_with(self.buffer.as_slice(), text) && self.is_untouched_from(count)
-            }
-            Err(_) => false,
-        }
+        self.answer == Ok(text.len())
+            && self.buffer.as_slice().starts_with(text)
+            && self.is_untouched_from(text.len())
     }
 
-    /// Whether the buffer was refused as too short, with the number needed, and left as it was.
-    fn was_too_short(&self, size: usize) -> bool
-        ensures { result ≡ true → WasTooShort size self.now }
+    /// Whether the part was refused for that, and the buffer left as it was.
+    fn was_refused(&self, refusal: DecodeRefusal) -> bool
+        ensures { Decides result (WasRefused refusal self.now) }
     {
-        match self.answer {
-            Err(DecodeRefusal::TooShort { needed }) => needed == size && self.was_refused(14),
-            _ => false,
-        }
-    }
-
-    /// Whether the part was refused with that number, and the buffer left as it was.
-    fn was_refused(&self, number: u32) -> bool
-        ensures { result ≡ true → WasRefused number self.now }
-    {
-        match self.answer {
-            Err(refusal) => refusal.number() == number && self.is_untouched_from(0),
-            Ok(_) => false,
-        }
+        self.answer == Err(refusal) && self.is_untouched_from(0)
     }
 }
 
-/// How many bytes the part decodes into, by what an empty buffer is refused for.
-fn decoded_size(larger: &[u8], size: usize) -> Option<usize> {
-    match decode(larger, PLACE, size, &mut []) {
+/// How many bytes the text decodes into, by what an empty buffer is refused for.
+fn decoded_size(text: &Surrounded<'_>) -> Option<usize> {
+    match text.decode(&mut []) {
         Ok(count) => Some(count),
         Err(DecodeRefusal::TooShort { needed }) => Some(needed),
         Err(DecodeRefusal::Malformed) => None,
     }
 }
 
+/// Whether a buffer that is a byte shorter is refused with the number 14, if there is a shorter one.
+fn is_refused_if_shorter(
+    heap: Global,
+    text: &Surrounded<'_>,
+    count: usize,
+) -> Result<bool, AllocError> {
+    let Some(shorter) = count.checked_sub(1) else {
+        return Ok(true);
+    };
+    let attempt = Attempt::new(heap, text, shorter)?;
+    let refusal = DecodeRefusal::TooShort { needed: count };
+    Ok(refusal.number() == 14 && attempt.was_refused(refusal))
+}
+
 /// What is said of a text that decodes into so many bytes: into a buffer of that length, into a longer
 /// one, and not into one that is a byte shorter.
-fn accepted(heap: Global, text: &[u8], larger: &[u8], count: usize) -> Result<Given, AllocError> {
-    let exact = Attempt::new(heap, larger, text.len(), count)?;
+fn accepted(heap: Global, text: &Surrounded<'_>, count: usize) -> Result<Given, AllocError> {
+    let exact = Attempt::new(heap, text, count)?;
+    let longer = Attempt::new(heap, text, count.saturating_add(2))?;
     let bytes = exact.buffer.as_slice();
-    let longer = Attempt::new(heap, larger, text.len(), count.saturating_add(2))?;
-    let mut sound = check(text).is_ok() && exact.wrote(bytes) && longer.wrote(bytes);
-    if count > 0 {
-        let short = Attempt::new(heap, larger, text.len(), count - 1)?;
-        sound = sound && short.was_too_short(count);
-    }
-    let words = if bytes == text {
+    let sound = check(text.text()).is_ok()
+        && exact.wrote(bytes)
+        && longer.wrote(bytes)
+        && is_refused_if_shorter(heap, text, count)?;
+    let words = if bytes == text.text() {
         String::from_str(heap, "=")?
     } else {
-        let whole = Whole(bytes);
-        format!(in heap; "{whole}")?
+        Whole(bytes).to_string(heap)?
     };
     Ok(Given {
-        kind: Kind::Read,
+        kind: Kind::Read.provided(sound),
         words,
-        sound,
     })
 }
 
 /// What is said of a text that is refused: with the number 8, whatever buffer there is.
-fn refused(heap: Global, text: &[u8], larger: &[u8]) -> Result<Given, AllocError> {
-    let attempt = Attempt::new(heap, larger, text.len(), text.len())?;
-    let checked = match check(text) {
-        Ok(()) => false,
-        Err(malformed) => malformed.number() == 8,
-    };
+fn refused(heap: Global, text: &Surrounded<'_>) -> Result<Given, AllocError> {
+    let attempt = Attempt::new(heap, text, text.text().len())?;
+    let refusal = DecodeRefusal::Malformed;
+    let sound = check(text.text()).is_err_and(|malformed| malformed.number() == 8)
+        && refusal.number() == 8
+        && attempt.was_refused(refusal);
     Ok(Given {
-        kind: Kind::Refused,
+        kind: Kind::Refused.provided(sound),
         words: String::from_str(heap, "refused")?,
-        sound: checked && attempt.was_refused(8),
     })
 }
 
 /// What `references` answers to a text, which stands inside of a larger text.
 pub fn answered(heap: Global, text: &[u8]) -> Result<Given, AllocError> {
-    let larger = surrounded(heap, text)?;
-    match decoded_size(larger.as_slice(), text.len()) {
-        Some(count) => accepted(heap, text, larger.as_slice(), count),
-        None => refused(heap, text, larger.as_slice()),
+    let text = Surrounded::new(heap, text)?;
+    match decoded_size(&text) {
+        Some(count) => accepted(heap, &text, count),
+        None => refused(heap, &text),
     }
 }

@@ -1,22 +1,23 @@
 //! How many vectors there were, and what came of them.
-ghost use Rattle.std.specs.Prelude.{◌≡◌, ◌<◌, ◌≤◌, ◌≢◌};
-ghost use Rattle.vectors.specs.Counts.{more, Kept, NoneDiffers};
+ghost use Rattle.std.specs.Prelude.{◌≡◌, ◌+◌, ◌<◌, ◌≤◌, ◌≢◌, sum};
+ghost use Rattle.vectors.specs.Counts.{capped, more, departed, agreed, agreed_in_all, disagreed, with_flaw, with_outcome, with_text, with_misread, Kept, NoneDiffers};
 
 use crate::line::Family;
 use crate::outcome::Outcome;
+use attrs::Flaw;
 use std::fmt;
 
-/// How often our check refuses where calamine gives items, by the number of the refusal.
-#[derive(Clone, Copy)]
+/// How often our check refuses where calamine gives items, by what the refusal is for.
+#[derive(Clone, Copy, Default)]
 struct Departures {
-    refused_4: u64,
-    refused_5: u64,
-    refused_6: u64,
-    refused_7: u64,
+    bad_items: u64,
+    no_quote: u64,
+    not_closed: u64,
+    repeated: u64,
 }
 
 /// The outcomes of a family.
-#[derive(Clone, Copy)]
+#[derive(Clone, Copy, Default)]
 struct Tally {
     same: u64,
     same_but_form_feeds: u64,
@@ -26,7 +27,8 @@ struct Tally {
 }
 
 /// The outcomes of all families, and how many lines or texts were not understood.
-#[derive(Clone, Copy)]
+// Fields, and no map by family: each is printed in its own place, and all widths count as one.
+#[derive(Clone, Copy, Default)]
 pub struct Tallies {
     items: Tally,
     decimals: Tally,
@@ -43,83 +45,82 @@ fn count(counter: &mut u64)
     *counter = counter.saturating_add(1);
 }
 
+/// What counters come to together.
+fn total(counters: &[u64]) -> u64
+    ensures { result ≡ capped (sum counters.now) }
+{
+    let mut sum = 0u64;
+    for counter in counters {
+        sum = sum.saturating_add(*counter);
+    }
+    sum
+}
+
 impl Departures {
-    /// No departure yet.
-    fn new() -> Departures {
-        Departures {
-            refused_4: 0,
-            refused_5: 0,
-            refused_6: 0,
-            refused_7: 0,
+    /// Counts a refusal.
+    fn note(&mut self, flaw: Flaw)
+        ensures { self.new ≡ with_flaw self.old flaw }
+    {
+        match flaw {
+            Flaw::BadKey | Flaw::NoSpace => count(&mut self.bad_items),
+            Flaw::NoQuote => count(&mut self.no_quote),
+            Flaw::NotClosed => count(&mut self.not_closed),
+            Flaw::Repeated => count(&mut self.repeated),
         }
     }
 
     /// How many there are.
-    fn all(&self) -> u64 {
-        self.refused_4
-            .saturating_add(self.refused_5)
-            .saturating_add(self.refused_6)
-            .saturating_add(self.refused_7)
+    fn all(&self) -> u64
+        ensures { result ≡ capped (departed self.now) }
+    {
+        total(&[
+            self.bad_items,
+            self.no_quote,
+            self.not_closed,
+            self.repeated,
+        ])
     }
 }
 
 impl Tally {
-    /// No outcome yet.
-    fn new() -> Tally {
-        Tally {
-            same: 0,
-            same_but_form_feeds: 0,
-            both_refuse: 0,
-            departures: Departures::new(),
-            differs: 0,
-        }
-    }
-
     /// Counts an outcome.
     fn note(&mut self, outcome: Outcome)
-        ensures { Kept self.old outcome self.new }
+        ensures counted { self.new ≡ with_outcome self.old outcome }
+        ensures kept { Kept self.old outcome self.new }
     {
         match outcome {
             Outcome::Same => count(&mut self.same),
             Outcome::SameButFormFeeds => count(&mut self.same_but_form_feeds),
             Outcome::BothRefuse => count(&mut self.both_refuse),
-            Outcome::Departs(4) => count(&mut self.departures.refused_4),
-            Outcome::Departs(5) => count(&mut self.departures.refused_5),
-            Outcome::Departs(6) => count(&mut self.departures.refused_6),
-            Outcome::Departs(7) => count(&mut self.departures.refused_7),
-            Outcome::Departs(_) => count(&mut self.differs),
+            Outcome::Departs(flaw) => self.departures.note(flaw),
             Outcome::Differs => count(&mut self.differs),
         }
     }
 
     /// How many are as expected.
-    fn agreed(&self) -> u64 {
-        self.same
-            .saturating_add(self.same_but_form_feeds)
-            .saturating_add(self.both_refuse)
-            .saturating_add(self.departures.all())
+    fn agreed(&self) -> u64
+        ensures { result ≡ capped (agreed self.now) }
+    {
+        total(&[
+            self.same,
+            self.same_but_form_feeds,
+            self.both_refuse,
+            self.departures.all(),
+        ])
     }
 
     /// How many there are.
-    fn compared(&self) -> u64 {
-        self.agreed().saturating_add(self.differs)
+    fn compared(&self) -> u64
+        ensures { result ≡ capped (agreed self.now + self.now.differs) }
+    {
+        total(&[self.agreed(), self.differs])
     }
 }
 
 impl Tallies {
-    /// No outcome yet.
-    pub fn new() -> Tallies {
-        Tallies {
-            items: Tally::new(),
-            decimals: Tally::new(),
-            wholes: Tally::new(),
-            references: Tally::new(),
-            misread: 0,
-        }
-    }
-
     /// Counts an outcome.
     pub fn note(&mut self, family: Family, outcome: Outcome)
+        ensures noted { self.new ≡ with_text self.old family outcome }
         ensures counted { NoneDiffers self.new → outcome ≢ Outcome.Differs }
         ensures stays { NoneDiffers self.new → NoneDiffers self.old }
     {
@@ -133,45 +134,51 @@ impl Tallies {
 
     /// Counts what was not understood.
     pub fn note_misread(&mut self)
-        ensures { NoneDiffers self.new → ⊥ }
+        ensures noted { self.new ≡ with_misread self.old }
+        ensures counted { NoneDiffers self.new → ⊥ }
     {
         count(&mut self.misread);
     }
 
     /// How many are not as expected.
     pub fn disagreed(&self) -> u64
-        ensures { result ≡ 0 → NoneDiffers self.now }
+        ensures total { result ≡ capped (disagreed self.now) }
+        ensures none { result ≡ 0 → NoneDiffers self.now }
     {
-        self.items
-            .differs
-            .saturating_add(self.decimals.differs)
-            .saturating_add(self.wholes.differs)
-            .saturating_add(self.references.differs)
-            .saturating_add(self.misread)
+        total(&[
+            self.items.differs,
+            self.decimals.differs,
+            self.wholes.differs,
+            self.references.differs,
+            self.misread,
+        ])
     }
 
     /// How many there are.
-    fn compared(&self) -> u64 {
-        self.items
-            .compared()
-            .saturating_add(self.decimals.compared())
-            .saturating_add(self.wholes.compared())
-            .saturating_add(self.references.compared())
-            .saturating_add(self.misread)
+    fn compared(&self) -> u64
+        ensures { result ≡ capped (agreed_in_all self.now + disagreed self.now) }
+    {
+        total(&[
+            self.items.compared(),
+            self.decimals.compared(),
+            self.wholes.compared(),
+            self.references.compared(),
+            self.misread,
+        ])
     }
 }
 
 impl fmt::Display for Departures {
     fn fmt<W: fmt::Write>(&self, f: &mut fmt::Formatter<W>) -> fmt::Result {
         let Departures {
-            refused_4,
-            refused_5,
-            refused_6,
-            refused_7,
+            bad_items,
+            no_quote,
+            not_closed,
+            repeated,
         } = *self;
         write!(
             f,
-            "refused 4: {refused_4}, 5: {refused_5}, 6: {refused_6}, 7: {refused_7}"
+            "refused 4: {bad_items}, 5: {no_quote}, 6: {not_closed}, 7: {repeated}"
         )
     }
 }

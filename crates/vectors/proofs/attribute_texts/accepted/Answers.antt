@@ -2,5 +2,5 @@
 use Rattle.vectors.proofs.Shorter.{item_shorter}
 use Rattle.vectors.proofs.attribute_texts.accepted.Goals as goal
 
-pub loop-first-smaller : goal.loop-first-smaller
-loop-first-smaller c = item_shorter _ _ c.in-Ok.first c.in-Some.item _ _ c.in-Some.is c.in-Ok.ensures.next
+pub loop-item-smaller : goal.loop-item-smaller
+loop-item-smaller c = item_shorter _ _ c.in-Ok-Some.field-0 c.in-Ok-Some.item _ _ c.in-Ok-Some.field-0-is c.in-Ok-Some.ensures.next
