@@ -2,7 +2,7 @@
 #![tactic(auto)]
 
 ghost use Rattle.formats.specs.Kinds.{kind_name};
-ghost use Rattle.std.specs.Prelude.{Some, refl};
+ghost use Rattle.std.specs.Prelude.{Some};
 ghost use Rattle.std.proofs.Common.{rules};
 
 mod names;

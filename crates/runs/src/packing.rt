@@ -9,6 +9,8 @@ use crate::marked::MarkedBox;
 
 /// The runs so far: how many there are, and the mark and the end of the last. While there are none the
 /// mark is any; an `Option` of the last run would need the end 0 of no run as a case in every clause.
+// That there are no more runs than places is a clause of `extend`: beside a ghost field nothing derives
+// `Clone`. The two memories go beside it, since a pack is lent them as two slices.
 #[derive(Clone, Copy)]
 struct Tail<M> {
     count: usize,
@@ -64,7 +66,7 @@ pub fn pack<M: Mark, B: MarkedBox<M>>(area: &B, marks: &mut [M], ends: &mut [u64
         mark: gap,
         end: 0,
     };
-    // by index: no method of a trait can lend an iterator over its box
+    // by index: for an iterator the trait would need a type of it, and laws of which cells it gives
     for index in 0..area.count() {
         let cell = area.cell(index).unwrap();
         tail = extend(tail, marks, ends, gap, cell.place);

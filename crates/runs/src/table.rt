@@ -32,7 +32,9 @@ impl<'m, M: Mark> RunTable<'m, M> {
     /// The table over marks and ends that are as many, where the ends rise from above 0.
     pub(crate) fn over(marks: &'m [M], ends: &'m [u64]) -> Self
         requires { IsTable marks.now ends.now }
-        ensures { result ≡ runs_of marks.now ends.now }
+        ensures runs { result ≡ runs_of marks.now ends.now }
+        ensures rising { Rises (ends_of result) }
+        ensures first { FirstAboveZero (ends_of result) }
     {
         RunTable { marks, ends }
     }

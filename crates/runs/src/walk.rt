@@ -2,7 +2,7 @@
 ghost use Rattle.std.specs.Prelude.{◌≡◌, ℕ, ◌^◌, ◌+◌, ◌-◌, ◌<◌, ◌≤◌, length, is_some, if◌then◌else◌, slice_index};
 ghost use Rattle.std.specs.Iterator.{at_most};
 ghost use Rattle.runs.specs.Runs.{mark_at};
-ghost use Rattle.runs.specs.Memory.{Rises, ends_of, last_end};
+ghost use Rattle.runs.specs.Memory.{Rises, FirstAboveZero, ends_of, last_end};
 
 use crate::mark::Mark;
 use crate::table::RunTable;
@@ -15,6 +15,7 @@ pub struct RunWalk<'m, M> {
     place: u64,
     ghost few: { length table < 2 ^ 64 },
     ghost rising: { Rises (ends_of table) },
+    ghost first: { FirstAboveZero (ends_of table) },
     ghost before: { (k : ℕ) → k < run → slice_index (ends_of table) k ≤ place },
     ghost within: { run < length table → place < slice_index (ends_of table) run },
 }
@@ -25,7 +26,7 @@ impl<'m, M: Mark> RunWalk<'m, M> {
         ensures table { result.table ≡ table.entry }
         ensures place { result.place ≡ 0 }
     {
-        // its clauses say that the ends rise from above 0
+        // says that the ends rise from above 0: a model shows its invariant to its own methods alone
         let _ = table.count();
         RunWalk {
             table,
@@ -46,12 +47,9 @@ impl<'m, M: Mark> Iterator for RunWalk<'m, M> {
     fn next(&mut self) -> Option<M> {
         let run = self.table.run(self.run)?;
         let place = self.place + 1;
-        let next = if run.end <= place {
-            self.run + 1
-        } else {
-            self.run
-        };
-        self.run = next;
+        if run.end <= place {
+            self.run += 1;
+        }
         self.place = place;
         Some(run.mark)
     }

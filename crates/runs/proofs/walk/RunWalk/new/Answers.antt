@@ -8,6 +8,7 @@ invariant_of-result g c =
     record {
       few = omega arith;
       rising = c.count.ensures.rising;
+      first = c.count.ensures.first;
       before = λ k below. absurd (omega arith);
       within = λ some. c.count.ensures.first (omega arith);
     }

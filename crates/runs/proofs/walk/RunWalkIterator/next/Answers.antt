@@ -16,8 +16,8 @@ returns-in_err-run-clause-steps g c =
       refl,
     )
 
-pub overflow_add-next : goal.overflow_add-next
-overflow_add-next g c =
+pub overflow_add-self : goal.overflow_add-self
+overflow_add-self g c =
     let w = c.args.self.now in
     let within = held_within w.table w.run w.place c.in_ok-run.run' (w.before, w.within) (sym c.run.ensures ∙ c.in_ok-run.was) in
     omega (arith, w.few)
@@ -26,13 +26,13 @@ pub invariant_of-self-2 : goal.invariant_of-self-2
 invariant_of-self-2 g c =
     let w = c.args.self.now in
     let r = c.in_ok-run.run' in
-    let next = c.if-run-place.next in
+    let next = c.if-run-place.self.1.1.0 in
     let held : Holds w.table next (w.place + 1) =
     held_after w.table w.run w.place r (w.before, w.within) (sym c.run.ensures ∙ c.in_ok-run.was) next w.rising (elim c.if-run-place.branch [
-      | then-run-place t ↦ inl (t.if-run-place.true, t.next-is)
-      | else-run-place t ↦ inr (omega (arith, t.if-run-place.false), t.next-is)
+      | then-run-place t ↦ inl (t.if-run-place.true, ap (λ s. s.1.1.0) t.self-is)
+      | else-run-place t ↦ inr (omega (arith, t.if-run-place.false), ap (λ s. s.1.1.0) t.self-is)
     ]) in
-    record { few = w.few; rising = w.rising; before = held.0; within = held.1 }
+    record { few = w.few; rising = w.rising; first = w.first; before = held.0; within = held.1 }
 
 pub returns-clause-steps : goal.returns-clause-steps
 returns-clause-steps g c =

@@ -3,7 +3,7 @@ use Rattle.std.specs.Slice.Iter.{iter_rest}
 use Rattle.std.proofs.lemmas.List.{nil_from_length}
 use Rattle.runs.specs.Memory.{runs_of}
 use Rattle.runs.proofs.Places.{runs_of_none}
-use Rattle.runs.proofs.runs.steps.RunsIterator.next.Goals as goal
+use Rattle.runs.proofs.runs.RunsIterator.next.Goals as goal
 
 -- where no end is left, no run was left and none is
 pub returns-in_err-end-clause-steps : goal.returns-in_err-end-clause-steps
