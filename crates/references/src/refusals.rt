@@ -44,8 +44,8 @@ impl DecodeRefusal {
 impl From<Malformed> for DecodeRefusal {
     ghost from_gives = { λ _ refusal. refusal ≡ refusals.Malformed };
 
-    fn from(_: Malformed) -> DecodeRefusal {
-        DecodeRefusal::Malformed
+    fn from(_: Malformed) -> Self {
+        Self::Malformed
     }
 }
 
