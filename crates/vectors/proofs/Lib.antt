@@ -1,3 +1,5 @@
 mod Spelling
 mod Shorter
 mod Splits
+mod Inside
+mod Flaws
