@@ -1,6 +1,7 @@
 //! Attribute texts.
 ghost use Rattle.std.specs.Prelude.{◌≡◌, ℕ, ◌+◌, ◌<◌, ◌≤◌, ◌⊎◌, List, length, true, Some, IfOk, Decides, string_bytes};
 ghost use Rattle.std.specs.Str.{IsTrimAscii};
+ghost use Rattle.attrs.specs.Grammar.{Attribute, WellFormed};
 ghost use Rattle.attrs.specs.Flaws.{FirstFault};
 ghost use Rattle.attrs.specs.Refusals.{fault_text};
 ghost use Rattle.attrs.specs.declared.fault.Flaw.{Flaw};
@@ -97,7 +98,8 @@ fn refused(heap: Global, text: &Surrounded<'_>, fault: Fault) -> Result<Given, A
 
 /// What `attrs` answers to an attribute text, which stands inside of a larger text.
 pub fn answered(heap: Global, text: &[u8]) -> Result<Given, AllocError>
-    ensures { IfOk result (λ given. (flaw : Flaw) → given.kind ≡ Flawed flaw → (place : ℕ) × FirstFault 3 text.now (record { flaw = flaw; place = place })) }
+    ensures read { IfOk result (λ given. (given.kind ≡ Read) ⊎ (given.kind ≡ ReadWithFormFeed) → (items : List Attribute) × WellFormed 3 text.now items) }
+    ensures flawed { IfOk result (λ given. (flaw : Flaw) → given.kind ≡ Flawed flaw → (place : ℕ) × FirstFault 3 text.now (record { flaw = flaw; place = place })) }
 {
     let text = Surrounded::new(heap, text)?;
     match text.attributes().check() {

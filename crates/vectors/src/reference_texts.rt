@@ -1,5 +1,7 @@
 //! Texts with references.
-ghost use Rattle.std.specs.Prelude.{◌≡◌, ℕ, ◌⊎◌, length, IfOk, MatchOption, Decides, string_bytes, codes};
+ghost use Rattle.std.specs.Prelude.{◌≡◌, ℕ, ◌-◌, ◌<◌, true, ◌⊎◌, length, IfOk, MatchOption, Decides, string_bytes, codes};
+ghost use Rattle.references.specs.declared.refusals.DecodeRefusal.TheVariants.{TooShort};
+ghost use Rattle.vectors.specs.declared.reference_texts.Attempt.{Attempt};
 ghost use Rattle.references.specs.Answers.{Sized, Undecodable};
 ghost use Rattle.vectors.specs.declared.given.Kind.TheVariants.{Read, Refused, Unsound};
 ghost use Rattle.vectors.specs.Attempts.{Untouched, Wrote, WasRefused, Attempted};
@@ -70,7 +72,9 @@ fn is_refused_if_shorter(
     heap: Global,
     text: &Surrounded<'_>,
     count: usize,
-) -> Result<bool, AllocError> {
+) -> Result<bool, AllocError>
+    ensures { IfOk result (λ is_refused. is_refused ≡ true → 0 < count → (attempt : Attempt) × Attempted text.now.text.now (count - 1) attempt × WasRefused (TooShort count) attempt) }
+{
     let Some(shorter) = count.checked_sub(1) else {
         return Ok(true);
     };
