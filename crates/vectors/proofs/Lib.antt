@@ -1,3 +1,4 @@
 mod Spelling
-mod Shorter
 mod Splits
+mod Inside
+mod Flaws

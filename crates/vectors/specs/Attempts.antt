@@ -1,13 +1,13 @@
 -- What decoding into a buffer that was filled with one byte came to.
-use Rattle.std.specs.Prelude.{◌≡◌, ℕ, ◌<◌, ◌≤◌, List, ◌++◌, length, replicate, Ok, Err, codes, vec_items, slice_index}
-use Rattle.references.specs.Answers.{Decoded}
+use Rattle.std.specs.Prelude.{◌≡◌, ℕ, ◌<◌, ◌≤◌, List, length, replicate, Ok, Err, vec_items, slice_index}
 use Rattle.references.specs.declared.refusals.DecodeRefusal.{DecodeRefusal}
 use Rattle.vectors.specs.Fronts.{Starts}
+use Rattle.vectors.specs.Texts.{DecodedText}
 use Rattle.vectors.specs.declared.reference_texts.Attempt.{Attempt}
 
--- the text, inside a larger one, was decoded into a buffer of that length
+-- the text was decoded into a buffer of that length
 abbrev pub Attempted : List ℕ → ℕ → Attempt → Type 0
-Attempted text size attempt = Decoded (codes "<a " ++ (text ++ codes "/>")) 3 (length text) (replicate size 0xA5) attempt.answer (vec_items attempt.buffer)
+Attempted text size attempt = DecodedText text (replicate size 0xA5) attempt.answer (vec_items attempt.buffer)
 
 -- from that index on, the buffer holds what it was filled with
 abbrev pub Untouched : List ℕ → ℕ → Type 0

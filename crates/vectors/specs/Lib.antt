@@ -7,3 +7,5 @@ pub mod Places
 pub mod Outcomes
 pub mod Attempts
 pub mod Counts
+pub mod Texts
+pub mod Compared

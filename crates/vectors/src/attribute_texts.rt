@@ -1,6 +1,11 @@
 //! Attribute texts.
-ghost use Rattle.std.specs.Prelude.{◌≡◌, ℕ, ◌<◌, ◌≤◌, List, length, true, Some, Decides};
+ghost use Rattle.std.specs.Prelude.{◌≡◌, ℕ, ◌+◌, ◌<◌, ◌≤◌, ◌⊎◌, List, length, true, Some, IfOk, Decides, string_bytes};
 ghost use Rattle.std.specs.Str.{IsTrimAscii};
+ghost use Rattle.attrs.specs.Grammar.{Attribute, WellFormed};
+ghost use Rattle.attrs.specs.Flaws.{FirstFault};
+ghost use Rattle.attrs.specs.Refusals.{fault_text};
+ghost use Rattle.attrs.specs.declared.fault.Flaw.{Flaw};
+ghost use Rattle.vectors.specs.declared.given.Kind.TheVariants.{Read, ReadWithFormFeed, Flawed, Unsound};
 ghost use Rattle.attrs.specs.Items.{attribute_of, left, Found};
 ghost use Rattle.vectors.specs.Places.{Stands, Placed};
 
@@ -50,22 +55,27 @@ fn add_words(words: &mut String, heap: Global, item: &Item<'_>) -> Result<(), Al
 }
 
 /// What is said of attribute text that the check accepts.
-fn accepted(heap: Global, text: &Surrounded<'_>) -> Result<Given, AllocError> {
+fn accepted(heap: Global, text: &Surrounded<'_>) -> Result<Given, AllocError>
+    ensures { IfOk result (λ given. (given.kind ≡ Read) ⊎ ((given.kind ≡ ReadWithFormFeed) ⊎ (given.kind ≡ Unsound))) }
+{
     let mut words = String::new(heap);
-    let mut kind = Kind::Read;
+    let mut form_feed = false;
     let mut sound = true;
     let attributes = text.attributes();
     let mut rest = attributes;
     while let Ok(Some(item)) = rest.next() {
-        if has_form_feed(item.key) {
-            kind = Kind::ReadWithFormFeed;
-        }
+        form_feed = form_feed || has_form_feed(item.key);
         sound = sound && is_placed(text.larger(), &item) && is_found(&attributes, &item);
         add_words(&mut words, heap, &item)?;
     }
     if words.is_empty() {
         words.push_str("none")?;
     }
+    let kind = if form_feed {
+        Kind::ReadWithFormFeed
+    } else {
+        Kind::Read
+    };
     Ok(Given {
         kind: kind.provided(sound),
         words,
@@ -74,7 +84,11 @@ fn accepted(heap: Global, text: &Surrounded<'_>) -> Result<Given, AllocError> {
 
 /// What is said of attribute text that the check refuses: a refusal has a number from 4 to 7, and is of
 /// a place in the text.
-fn refused(heap: Global, text: &Surrounded<'_>, fault: Fault) -> Result<Given, AllocError> {
+fn refused(heap: Global, text: &Surrounded<'_>, fault: Fault) -> Result<Given, AllocError>
+    ensures kind { IfOk result (λ given. (given.kind ≡ Flawed fault.flaw) ⊎ (given.kind ≡ Unsound)) }
+    ensures within { IfOk result (λ given. 3 ≤ fault.place → fault.place < 3 + length text.now.text.now → given.kind ≡ Flawed fault.flaw) }
+    ensures words { IfOk result (λ given. string_bytes given.words ≡ fault_text fault) }
+{
     let sound = matches!(fault.flaw.number(), 4..=7) && text.has_place(fault.place);
     Ok(Given {
         kind: Kind::Flawed(fault.flaw).provided(sound),
@@ -83,7 +97,10 @@ fn refused(heap: Global, text: &Surrounded<'_>, fault: Fault) -> Result<Given, A
 }
 
 /// What `attrs` answers to an attribute text, which stands inside of a larger text.
-pub fn answered(heap: Global, text: &[u8]) -> Result<Given, AllocError> {
+pub fn answered(heap: Global, text: &[u8]) -> Result<Given, AllocError>
+    ensures read { IfOk result (λ given. (given.kind ≡ Read) ⊎ (given.kind ≡ ReadWithFormFeed) → (items : List Attribute) × WellFormed 3 text.now items) }
+    ensures flawed { IfOk result (λ given. (flaw : Flaw) → given.kind ≡ Flawed flaw → (place : ℕ) × FirstFault 3 text.now (record { flaw = flaw; place = place })) }
+{
     let text = Surrounded::new(heap, text)?;
     match text.attributes().check() {
         Ok(()) => accepted(heap, &text),

@@ -1,6 +1,6 @@
 //! What our crates answer to a text.
 ghost use Rattle.std.specs.Prelude.{◌≡◌, if◌then◌else◌, IfOk};
-ghost use Rattle.vectors.specs.Answers.{Says};
+ghost use Rattle.vectors.specs.Answers.{Says, remark};
 ghost use Rattle.vectors.specs.declared.given.Kind.TheVariants.{Unsound};
 
 use attrs::Flaw;
@@ -8,7 +8,7 @@ use std::alloc::{AllocError, Global};
 use std::fmt;
 
 /// A kind of answer.
-#[derive(Clone, Copy, PartialEq, Eq)]
+#[derive(Clone, Copy)]
 pub enum Kind {
     /// The text was read.
     Read,
@@ -61,11 +61,12 @@ impl Given {
     }
 
     /// What is to say beside the words.
-    pub fn remark(&self) -> &'static str {
-        if self.kind == Kind::Unsound {
-            ", with a wrong place, look-up, number or buffer"
-        } else {
-            ""
+    pub fn remark(&self) -> &'static str
+        ensures { result.now ≡ remark self.now.kind }
+    {
+        match self.kind {
+            Kind::Unsound => ", with a wrong place, look-up, number or buffer",
+            _ => "",
         }
     }
 }

@@ -11,8 +11,9 @@
 //!     decode TEXT.. ANSWER        the decoded text, = where that is the text itself, or refused
 #![tactic(auto)]
 
-ghost use Rattle.std.specs.Prelude.{◌≡◌};
-ghost use Rattle.vectors.specs.Counts.{NoneDiffers};
+ghost use Rattle.std.specs.Prelude.{◌≡◌, OnOk};
+ghost use Rattle.vectors.specs.Counts.{NoneDiffers, with_misread};
+ghost use Rattle.vectors.specs.Compared.{Compared};
 
 mod attribute_texts;
 mod decimals;
@@ -66,7 +67,8 @@ impl Comparison<'_> {
 
     /// Notes, and shows, what is no line or no text.
     fn misread(&mut self, part: &str) -> io::Result<()>
-        ensures { NoneDiffers self.new.tallies → ⊥ }
+        ensures noted { self.new.tallies ≡ with_misread self.old.tallies }
+        ensures counted { NoneDiffers self.new.tallies → ⊥ }
     {
         self.tallies.note_misread();
         self.show(format_args!("not understood: {part}"))
@@ -74,7 +76,8 @@ impl Comparison<'_> {
 
     /// Compares one text of a line.
     fn text(&mut self, line: &Line<'_>, field: &str) -> io::Result<()>
-        ensures { NoneDiffers self.new.tallies → NoneDiffers self.old.tallies }
+        ensures compared { OnOk result (Compared line.now field.now self.old.tallies self.new.tallies) }
+        ensures stays { NoneDiffers self.new.tallies → NoneDiffers self.old.tallies }
     {
         let heap = self.rt.alloc();
         let Some(text) = decoded(heap, field)? else {
@@ -83,14 +86,14 @@ impl Comparison<'_> {
         let given = answered(heap, line.family, text.as_slice())?;
         let outcome = judged(heap, line.answer, &given)?;
         self.tallies.note(line.family, outcome);
-        if outcome != Outcome::Differs {
-            return Ok(());
+        if outcome == Outcome::Differs {
+            let family = line.family;
+            let expected = line.answer;
+            let came = given.words.as_str();
+            let remark = given.remark();
+            self.show(format_args!("{family} {field}: expected {expected}, came {came}{remark}"))?;
         }
-        let family = line.family;
-        let expected = line.answer;
-        let came = given.words.as_str();
-        let remark = given.remark();
-        self.show(format_args!("{family} {field}: expected {expected}, came {came}{remark}"))
+        Ok(())
     }
 
     /// Compares the texts of a line.

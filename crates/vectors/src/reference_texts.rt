@@ -1,5 +1,9 @@
 //! Texts with references.
-ghost use Rattle.std.specs.Prelude.{◌≡◌, length, IfOk, Decides, codes};
+ghost use Rattle.std.specs.Prelude.{◌≡◌, ℕ, ◌-◌, ◌<◌, true, ◌⊎◌, length, IfOk, MatchOption, Decides, string_bytes, codes};
+ghost use Rattle.references.specs.declared.refusals.DecodeRefusal.TheVariants.{TooShort};
+ghost use Rattle.vectors.specs.declared.reference_texts.Attempt.{Attempt};
+ghost use Rattle.references.specs.Answers.{Sized, Undecodable};
+ghost use Rattle.vectors.specs.declared.given.Kind.TheVariants.{Read, Refused, Unsound};
 ghost use Rattle.vectors.specs.Attempts.{Untouched, Wrote, WasRefused, Attempted};
 
 use crate::field::Whole;
@@ -53,7 +57,9 @@ impl Attempt {
 }
 
 /// How many bytes the text decodes into, by what an empty buffer is refused for.
-fn decoded_size(text: &Surrounded<'_>) -> Option<usize> {
+fn decoded_size(text: &Surrounded<'_>) -> Option<usize>
+    ensures { MatchOption result (Undecodable text.now.text.now) (λ size. Sized text.now.text.now size) }
+{
     match text.decode(&mut []) {
         Ok(count) => Some(count),
         Err(DecodeRefusal::TooShort { needed }) => Some(needed),
@@ -66,7 +72,9 @@ fn is_refused_if_shorter(
     heap: Global,
     text: &Surrounded<'_>,
     count: usize,
-) -> Result<bool, AllocError> {
+) -> Result<bool, AllocError>
+    ensures { IfOk result (λ is_refused. is_refused ≡ true → 0 < count → (attempt : Attempt) × Attempted text.now.text.now (count - 1) attempt × WasRefused (TooShort count) attempt) }
+{
     let Some(shorter) = count.checked_sub(1) else {
         return Ok(true);
     };
@@ -77,7 +85,9 @@ fn is_refused_if_shorter(
 
 /// What is said of a text that decodes into so many bytes: into a buffer of that length, into a longer
 /// one, and not into one that is a byte shorter.
-fn accepted(heap: Global, text: &Surrounded<'_>, count: usize) -> Result<Given, AllocError> {
+fn accepted(heap: Global, text: &Surrounded<'_>, count: usize) -> Result<Given, AllocError>
+    ensures { IfOk result (λ given. (given.kind ≡ Read) ⊎ (given.kind ≡ Unsound)) }
+{
     let exact = Attempt::new(heap, text, count)?;
     let longer = Attempt::new(heap, text, count.saturating_add(2))?;
     let bytes = exact.buffer.as_slice();
@@ -97,7 +107,10 @@ fn accepted(heap: Global, text: &Surrounded<'_>, count: usize) -> Result<Given, 
 }
 
 /// What is said of a text that is refused: with the number 8, whatever buffer there is.
-fn refused(heap: Global, text: &Surrounded<'_>) -> Result<Given, AllocError> {
+fn refused(heap: Global, text: &Surrounded<'_>) -> Result<Given, AllocError>
+    ensures kind { IfOk result (λ given. (given.kind ≡ Refused) ⊎ (given.kind ≡ Unsound)) }
+    ensures words { IfOk result (λ given. string_bytes given.words ≡ codes "refused") }
+{
     let attempt = Attempt::new(heap, text, text.text().len())?;
     let refusal = DecodeRefusal::Malformed;
     let sound = check(text.text()).is_err_and(|malformed| malformed.number() == 8)
@@ -110,7 +123,10 @@ fn refused(heap: Global, text: &Surrounded<'_>) -> Result<Given, AllocError> {
 }
 
 /// What `references` answers to a text, which stands inside of a larger text.
-pub fn answered(heap: Global, text: &[u8]) -> Result<Given, AllocError> {
+pub fn answered(heap: Global, text: &[u8]) -> Result<Given, AllocError>
+    ensures read { IfOk result (λ given. given.kind ≡ Read → (size : ℕ) × Sized text.now size) }
+    ensures refused { IfOk result (λ given. given.kind ≡ Refused → Undecodable text.now) }
+{
     let text = Surrounded::new(heap, text)?;
     match decoded_size(&text) {
         Some(count) => accepted(heap, &text, count),

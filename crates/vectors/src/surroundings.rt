@@ -1,7 +1,7 @@
 //! A text inside a larger one, so that places are not counted from its own start.
 ghost use Rattle.std.specs.Prelude.{◌≡◌, ◌+◌, ◌<◌, ◌≤◌, ◌++◌, length, IfOk, Decides, codes};
 ghost use Rattle.attrs.specs.Items.{left};
-ghost use Rattle.references.specs.Answers.{Decoded};
+ghost use Rattle.vectors.specs.Texts.{DecodedText};
 
 use attrs::Attributes;
 use references::{DecodeRefusal, decode};
@@ -68,7 +68,7 @@ impl<'t> Surrounded<'t> {
 
     /// Decodes the text into a buffer.
     pub fn decode(&self, buffer: &mut [u8]) -> Result<usize, DecodeRefusal>
-        ensures { Decoded (codes "<a " ++ (self.now.text.now ++ codes "/>")) 3 (length self.now.text.now) buffer.old result buffer.new }
+        ensures { DecodedText self.now.text.now buffer.old result buffer.new }
     {
         decode(self.larger(), PLACE, self.text.len(), buffer)
     }
