@@ -9,7 +9,7 @@ use crate::bytes::{is_key_byte, is_quote, is_white, run_end};
 use crate::fault::Flaw;
 
 /// An item: its key, its value without the quotes, and the places of both in the text.
-#[derive(Clone, Copy, PartialEq, Eq)]
+#[derive(Clone, Copy, Debug, PartialEq, Eq)]
 pub struct Item<'t> {
     pub key: &'t [u8],
     pub value: &'t [u8],
