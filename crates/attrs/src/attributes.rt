@@ -56,9 +56,9 @@ impl<'t> Attributes<'t> {
         self.place = value.end + 1;
         Ok(Some(Item {
             key: &text[place..key.end],
-            value: &text[value.start..value.end],
             key_place: place,
             value_place: value.start,
+            value: &text[value],
         }))
     }
 
