@@ -1,4 +1,4 @@
-use Rattle.std.proofs.Common.{◌≡◌, ◌+◌, drop, Err, rules}
+use Rattle.std.proofs.Common.{◌≡◌, Err, rules}
 use Rattle.attrs.specs.Bytes.{white, except}
 use Rattle.attrs.specs.declared.fault.Flaw.TheVariants.{NoQuote}
 use Rattle.attrs.proofs.Reading.{unquoted, unclosed, quoted, joined}

@@ -1,4 +1,4 @@
-use Rattle.std.proofs.Common.{◌≡◌, drop, arith, rules}
+use Rattle.std.proofs.Common.{◌≡◌, drop, rules}
 use Rattle.attrs.specs.Grammar.{First, past}
 use Rattle.attrs.specs.Items.{attribute_of, FoundAt, NotFound, left}
 use Rattle.attrs.proofs.Finding.{passed_more, found_among, none_among, fewer_left}
