@@ -29,8 +29,8 @@ const RAISED_EXPONENT: u64 = 1014;
 const EXPONENT_UNIT: u64 = 1 << 52;
 
 /// A power of ten as a binary64.
-// Three functions ask for the bound of k, which is no ghost field of `Scaled`: `scaled`, by which specs say what
-// a text says, makes one of any w and k.
+// Three functions ask for the bound of k, and w and k come as two numbers. A `Scaled` with bounds as ghost fields would not do:
+// the definition of what a text says makes one of any w and k first.
 fn power_of_ten(k: usize) -> f64
     requires { k ≤ 18 }
     ensures { HasValue result false (10 ^ k) 1 }
