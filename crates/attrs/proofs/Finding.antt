@@ -1,5 +1,5 @@
 -- Look-up of a key, item by item.
-use Rattle.std.proofs.Common.{◌≡◌, ℕ, ◌<◌, ◌≤◌, ◌⊎◌, List, [], ◌∷◌, ◌++◌, length, drop, sym, ap, ◌∙◌, subst, inl, inr, ⊎_elim, arith}
+use Rattle.std.proofs.Common.{◌≡◌, ℕ, ◌-◌, ◌<◌, ◌⊎◌, List, [], ◌∷◌, ◌++◌, length, drop, sym, ap, ◌∙◌, subst, inl, inr, ⊎_elim, arith}
 use Rattle.std.proofs.lemmas.List.{length-drop}
 use Rattle.attrs.specs.Bytes.{white, All}
 use Rattle.attrs.specs.Grammar.{Attribute, First, Front, Has, WellFormed, past}
@@ -22,14 +22,14 @@ passed_more {place} {bytes} {key} {end} {rest} {item} {next} p x other =
       none = λ h. ⊎_elim p.none other (has_push key p.items item h);
     }
 
--- an item takes bytes, and there are no more than the text has
-pub first_inside : (text : List ℕ) (place : ℕ) (item : Attribute) (rest : List ℕ) → First place (drop place text) item rest → (place < past item) × (past item ≤ length text) × (place < length text)
-first_inside text place item rest x =
+-- past an item that is taken off the front, fewer bytes of the text are left
+pub fewer_left : (text : List ℕ) (place place' : ℕ) (item : Attribute) (rest : List ℕ) → First place (drop place text) item rest → place' ≡ past item → length text - place' < length text - place
+fewer_left text place place' item rest x at =
     let low = (first_forward x).0 in
     let high = (first_forward x).1 in
     let ends = value_ends x in
     let long = length-drop place text in
-    (omega arith, omega arith, omega arith)
+    omega (arith, at)
 
 -- ---- among the items of well-formed text
 

@@ -4,7 +4,7 @@ use Rattle.std.proofs.lemmas.Bool.{not_from_false, false_from_ne_true}
 use Rattle.std.proofs.lemmas.List.{drop_more, take_rest, length-take, length-drop, length-append}
 use Rattle.attrs.specs.Bytes.{white, quote, key_byte, except, All, Begins, Run}
 use Rattle.attrs.specs.Grammar.{Keyed, Quoted, Apart, Indented, First}
-use Rattle.attrs.specs.Flaws.{Unquoted, Unclosed, ValueFlaw, ItemFlaw, Faulty}
+use Rattle.attrs.specs.Flaws.{Unquoted, Unclosed, Joined, ValueFlaw, ItemFlaw, Faulty}
 use Rattle.attrs.specs.declared.fault.Flaw.{Flaw}
 use Rattle.attrs.specs.declared.fault.Flaw.TheVariants.{BadKey, NoSpace, NoQuote, NotClosed, Repeated}
 use Rattle.attrs.specs.declared.fault.Fault.{Fault}
@@ -93,9 +93,15 @@ module _ (xs : List ℕ) (from opening : ℕ) (gap : Run white xs from opening) 
               ∙ ap (λ ys. take (end - (opening + 1)) (drop (opening + 1) xs) ++ ys) (drop_more xs end 0 closed ∙ ap (λ b. b ∷ drop (end + 1) xs) closing));
         }
 
--- after the closing quote
-pub dark_there : (xs : List ℕ) (at : ℕ) → at < length xs → white (get_or xs at 0) ≡ false → Begins (λ b. not (white b)) (drop at xs)
-dark_there xs at inside dark = subst (Begins (λ b. not (white b))) (sym (drop_more xs at 0 inside)) (ap not dark)
+    -- and where something other than white space follows the closing quote
+    pub joined : end + 1 < length xs → white (get_or xs (end + 1) 0) ≡ false → Joined (drop from xs)
+    joined more dark =
+        record {
+          value = take (end - (opening + 1)) (drop (opening + 1) xs);
+          rest = drop (end + 1) xs;
+          quoted = quoted (omega arith);
+          dark = subst (Begins (λ b. not (white b))) (sym (drop_more xs (end + 1) 0 more)) (ap not dark);
+        }
 
 -- ---- the first thing in a text from a place on
 

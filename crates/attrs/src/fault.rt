@@ -2,10 +2,11 @@
 ghost use Rattle.std.specs.Prelude.{◌≡◌, Some};
 ghost use Rattle.attrs.specs.Refusals.{flaw_number, flaw_words, fault_text};
 
+use std::error::Error;
 use std::fmt;
 
 /// What is wrong with an item.
-#[derive(Clone, Copy, PartialEq, Eq)]
+#[derive(Clone, Copy, Debug, PartialEq, Eq)]
 pub enum Flaw {
     /// It does not begin with a key and an `=`.
     BadKey,
@@ -21,7 +22,7 @@ pub enum Flaw {
 
 /// The first fault of attribute text: what is wrong, and the place in the text where the faulty item
 /// begins.
-#[derive(Clone, Copy, PartialEq, Eq)]
+#[derive(Clone, Copy, Debug, PartialEq, Eq)]
 pub struct Fault {
     pub flaw: Flaw,
     pub place: usize,
@@ -64,3 +65,5 @@ impl fmt::Display for Fault {
         write!(f, "refused {number} at byte {place} ({words})")
     }
 }
+
+impl Error for Fault {}

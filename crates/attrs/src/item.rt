@@ -7,9 +7,10 @@ ghost use Rattle.attrs.specs.Flaws.{ValueFlaw};
 
 use crate::bytes::{is_key_byte, is_quote, is_white, run_end};
 use crate::fault::Flaw;
+use std::ops::Range;
 
 /// An item: its key, its value without the quotes, and the places of both in the text.
-#[derive(Clone, Copy, PartialEq, Eq)]
+#[derive(Clone, Copy, Debug, PartialEq, Eq)]
 pub struct Item<'t> {
     pub key: &'t [u8],
     pub value: &'t [u8],
@@ -22,13 +23,6 @@ pub struct Item<'t> {
 pub(crate) struct KeyBounds {
     pub(crate) end: usize,
     pub(crate) equals: usize,
-}
-
-/// Where a value begins and ends, without its quotes.
-#[derive(Clone, Copy)]
-pub(crate) struct ValueBounds {
-    pub(crate) start: usize,
-    pub(crate) end: usize,
 }
 
 /// The bounds of the key that begins at `start`; none where there is no key with an `=` after it.
@@ -45,8 +39,8 @@ pub(crate) fn key_bounds(bytes: &[u8], start: usize) -> Option<KeyBounds>
     Some(KeyBounds { end, equals })
 }
 
-/// The bounds of the value that follows an `=`, from the byte after it on.
-pub(crate) fn value_bounds(bytes: &[u8], from: usize) -> Result<ValueBounds, Flaw>
+/// The bounds, without its quotes, of the value that follows an `=`, from the byte after it on.
+pub(crate) fn value_bounds(bytes: &[u8], from: usize) -> Result<Range<usize>, Flaw>
     requires { from ≤ length bytes.now }
     ensures within { IfOk result (λ v. (from < v.start) × (v.start ≤ v.end) × (v.end < length bytes.now)) }
     ensures quoted { results.MatchResult result (λ v. Quoted (drop from bytes.now) (take (v.end - v.start) (drop v.start bytes.now)) (drop (v.end + 1) bytes.now)) (λ flaw. ValueFlaw (drop from bytes.now) flaw) }
@@ -66,5 +60,5 @@ pub(crate) fn value_bounds(bytes: &[u8], from: usize) -> Result<ValueBounds, Fla
     if bytes.get(end + 1).is_some_and(|byte| !is_white(*byte)) {
         return Err(Flaw::NoSpace);
     }
-    Ok(ValueBounds { start, end })
+    Ok(start..end)
 }

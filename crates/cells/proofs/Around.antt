@@ -4,12 +4,7 @@ use Rattle.std.proofs.lemmas.Bool.Decides.{nat_tests}
 use Rattle.cells.specs.declared.cell.Cell.{Cell}
 use Rattle.cells.specs.Area.{Area, grown}
 use Rattle.cells.specs.Words.{words_of, Least}
-
-abbrev row : Cell → ℕ
-row x = x.at.row
-
-abbrev column : Cell → ℕ
-column x = x.at.column
+use Rattle.cells.proofs.Words.{row, column}
 
 -- one cell more gives its position a word, and the other positions keep theirs
 pushed : (xs : List Cell) (y : Cell) (r c : ℕ) → is_some (words_of (xs ++ y ∷ []) r c) ≡ (is_some (words_of xs r c) || (eqb (row y) r && eqb (column y) c))

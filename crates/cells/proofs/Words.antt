@@ -7,10 +7,10 @@ use Rattle.cells.specs.declared.position.Position.{Position}
 use Rattle.cells.specs.Words.{number, words_of, reworded}
 use Rattle.cells.specs.Located.{Free, Found, Absent}
 
-abbrev row : Cell → ℕ
+abbrev pub row : Cell → ℕ
 row x = x.at.row
 
-abbrev column : Cell → ℕ
+abbrev pub column : Cell → ℕ
 column x = x.at.column
 
 -- whether a position is that of a row and a column

@@ -13,6 +13,7 @@ pub use full::Full;
 #[derive(Drop)]
 pub struct CellMemory {
     cells: Vec<Cell>,
+    // A field, since a `Vec` of Rust may have a larger capacity than was asked for; that of Rattle has exactly so much.
     limit: usize,
     ghost ordered: { Ordered cells.items },
     ghost few: { vec_len cells ≤ limit },

@@ -31,7 +31,7 @@ const MOST_PLACES: usize = 18;
 fn places(after: usize, negative: bool, size: u64) -> Option<usize>
     ensures { result ≡ power_within (pos after -ℤ signed negative size) }
 {
-    // The sign and the size stay two values: an i64 holds no size from 2^63 on.
+    // The sign and the size stay two values: one signed number takes 128 bits, and is no plainer.
     let size = size as usize;
     let count = if negative {
         after.checked_add(size)?
@@ -79,6 +79,7 @@ fn past_point(text: &[u8], number: u64) -> Option<(u64, &[u8])>
 }
 
 /// What a text without its minus sign says, with that sign or without.
+// It is handed the sign, since `magnitude`, by which its answer is defined, is.
 fn scan(text: &[u8], negative: bool) -> Option<Scaled>
     ensures { result ≡ magnitude negative text.now }
 {

@@ -16,8 +16,8 @@ const POWERS: [f64; 19] = [
 /// 2^53: up to here binary64 has every whole number.
 const EXACT: u64 = 1 << 53;
 
-/// 2^53, the first number with more binary digits than a binary64 keeps.
-const TOO_LONG: u128 = 1 << 53;
+/// The same number: the first with more binary digits than a binary64 keeps.
+const TOO_LONG: u128 = EXACT as u128;
 
 /// 2^60, more than any power of ten here.
 const RAISED: u128 = 1 << 60;
@@ -29,6 +29,8 @@ const RAISED_EXPONENT: u64 = 1014;
 const EXPONENT_UNIT: u64 = 1 << 52;
 
 /// A power of ten as a binary64.
+// Three functions ask for the bound of k, and w and k come as two numbers. A `Scaled` with bounds as ghost fields would not do:
+// the definition of what a text says makes one of any w and k first.
 fn power_of_ten(k: usize) -> f64
     requires { k ≤ 18 }
     ensures { HasValue result false (10 ^ k) 1 }

@@ -41,6 +41,7 @@ fn write_character(buffer: &mut [u8], place: usize, character: char)
 }
 
 /// Writes the decoded bytes of a raw text over the front of the buffer.
+// A place is counted, and the buffer not cut shorter: the contract speaks of the whole buffer, which would be joined again.
 fn write(raw: &[u8], buffer: &mut [u8])
     requires { (n : ℕ) × Sized raw.now n × (n ≤ length buffer.old) }
     ensures { (n : ℕ) → Sized raw.now n → Written raw.now buffer.old buffer.new n }

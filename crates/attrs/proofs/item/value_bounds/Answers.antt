@@ -1,7 +1,7 @@
-use Rattle.std.proofs.Common.{◌≡◌, ◌+◌, drop, Err, rules}
+use Rattle.std.proofs.Common.{◌≡◌, Err, rules}
 use Rattle.attrs.specs.Bytes.{white, except}
 use Rattle.attrs.specs.declared.fault.Flaw.TheVariants.{NoQuote}
-use Rattle.attrs.proofs.Reading.{unquoted, unclosed, quoted, dark_there}
+use Rattle.attrs.proofs.Reading.{unquoted, unclosed, quoted, joined}
 use Rattle.attrs.proofs.item.value_bounds.Goals as goal
 
 pub returns-in_err-mark-clause-quoted : goal.returns-in_err-mark-clause-quoted
@@ -17,16 +17,9 @@ returns-then-end-bytes-clause-quoted c =
 
 pub returns-then-is_some_and-clause-quoted : goal.returns-then-is_some_and-clause-quoted
 returns-then-is_some_and-clause-quoted c =
-    let after = c.run_end-end.result + 1 in
-    record {
-      value = _;
-      rest = drop after c.args.bytes.now;
-      quoted =
-          quoted c.args.bytes.now c.args.from c.run_end-open.result (c.run_end-open.ensures.run white (search rules))
-          c.in_ok-mark.mark c.run_end-end.result (search rules) (search rules) (search rules)
-          (c.run_end-end.ensures.run (except c.in_ok-mark.mark) (search rules)) (search rules);
-      dark = dark_there c.args.bytes.now after (search rules) (search rules);
-    }
+    joined c.args.bytes.now c.args.from c.run_end-open.result (c.run_end-open.ensures.run white (search rules))
+    c.in_ok-mark.mark c.run_end-end.result (search rules) (search rules) (search rules)
+    (c.run_end-end.ensures.run (except c.in_ok-mark.mark) (search rules)) (search rules) (search rules)
 
 pub returns-clause-quoted : goal.returns-clause-quoted
 returns-clause-quoted c =

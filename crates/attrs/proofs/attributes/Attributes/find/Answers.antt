@@ -1,7 +1,7 @@
-use Rattle.std.proofs.Common.{◌≡◌, drop, arith, rules}
+use Rattle.std.proofs.Common.{◌≡◌, drop, rules}
 use Rattle.attrs.specs.Grammar.{First, past}
 use Rattle.attrs.specs.Items.{attribute_of, FoundAt, NotFound, left}
-use Rattle.attrs.proofs.Finding.{passed_more, found_among, none_among, first_inside}
+use Rattle.attrs.proofs.Finding.{passed_more, found_among, none_among, fewer_left}
 use Rattle.attrs.proofs.attributes.Attributes.find.Goals as goal
 
 pub returns-then-eq-clause-among : goal.returns-then-eq-clause-among
@@ -11,11 +11,7 @@ returns-then-eq-clause-among c items formed =
 
 pub loop-item-smaller : goal.loop-item-smaller
 loop-item-smaller c =
-    let text = c.args.self.now.text.now in
-    let first : First c.loop-item.rest.place (drop c.loop-item.rest.place text) (attribute_of c.in-Ok-Some.item) (drop c.next.new.self.place text) = search rules in
-    let at : c.next.new.self.place ≡ past (attribute_of c.in-Ok-Some.item) = search rules in
-    let inside = first_inside text _ _ _ first in
-    omega (arith, at, inside.0, inside.1, inside.2)
+    fewer_left c.args.self.now.text.now _ _ (attribute_of c.in-Ok-Some.item) (drop c.next.new.self.place c.args.self.now.text.now) (search rules) (search rules)
 
 pub loop-item-preserved : goal.loop-item-preserved
 loop-item-preserved c =
