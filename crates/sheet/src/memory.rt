@@ -19,7 +19,7 @@ pub struct SheetMemory {
 }
 
 /// The cells that are kept now, and the box and the runs of the latest accepted pack.
-// Its calls take a row and a column, and no `Position`, since put, clear, get and kind take any numbers.
+// Put, clear, get and kind take a row and a column, and no `Position`, since any numbers may come.
 #[derive(Drop)]
 pub struct Sheet {
     cells: CellMemory,
