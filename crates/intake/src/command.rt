@@ -33,6 +33,7 @@ impl FromStr for DeskName {
 }
 
 /// A question about a sheet, which changes nothing.
+// A row and a column, and no `Position`, since a line may ask of any, on the sheet or off it.
 #[derive(Clone, Copy)]
 pub enum Question {
     Get { row: u32, column: u32 },

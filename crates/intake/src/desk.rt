@@ -43,6 +43,7 @@ impl Desk {
     }
 
     /// The number of the style at a position: the id that was packed there.
+    // The palette and not its entries alone, since this rests on the palette's invariant.
     pub fn style_number(&self, palette: &Palette, row: u32, column: u32) -> Option<u32>
         ensures { options.MatchOption result (got palette.now.entries.items self.now.sheet row column ≡ None) (λ n. packed_id self.now.sheet row column ≡ Some n) }
     {

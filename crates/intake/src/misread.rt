@@ -1,4 +1,5 @@
 //! Why a line is not understood.
+use formats::UnknownKind;
 use thiserror::Error;
 
 /// What is wrong with a line, or what stands in its way.
@@ -10,8 +11,8 @@ pub enum Misread {
     UnknownWord,
     #[error("a sheet is named loader or floor")]
     UnknownName,
-    #[error("a kind is Other, DateTime or TimeDelta")]
-    UnknownKind,
+    #[error("{0}")]
+    UnknownKind(UnknownKind),
     #[error("a sheet is asked to put, clear, pack, get, kind, runs or walk")]
     UnknownCall,
     #[error("a field is missing")]

@@ -29,9 +29,9 @@ fn number_of(word: &str) -> Result<u32, Misread>
 
 /// The date kind that a word names.
 fn kind_of(word: &str) -> Result<CellFormat, Misread>
-    ensures { MatchResult result (λ kind. word.now ≡ kind_name kind) (λ why. (why ≡ Misread.UnknownKind) × ((kind : CellFormat) → word.now ≢ kind_name kind)) }
+    ensures { MatchResult result (λ kind. word.now ≡ kind_name kind) (λ why. (why ≡ Misread.UnknownKind (record {})) × ((kind : CellFormat) → word.now ≢ kind_name kind)) }
 {
-    word.parse::<CellFormat>().map_err(|_| Misread::UnknownKind)
+    word.parse::<CellFormat>().map_err(Misread::UnknownKind)
 }
 
 /// The words of a line that are still to be read.

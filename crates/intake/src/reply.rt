@@ -62,8 +62,8 @@ fn write_styled<W: fmt::Write>(
     f: &mut fmt::Formatter<W>,
     styled: Styled<'_, Style>,
 ) -> fmt::Result {
-    let row = styled.row;
-    let column = styled.column;
+    let row = styled.at.row();
+    let column = styled.at.column();
     match styled.style {
         Some(style) => write!(f, "\n  {row} {column} style {}", style.number),
         None => write!(f, "\n  {row} {column} none"),

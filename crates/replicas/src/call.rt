@@ -6,6 +6,7 @@ use sheet::{ClearRefusal, PackRefusal, Put, PutRefusal, RunCounts};
 use std::fmt;
 
 /// A put, a clear or a pack, with its arguments.
+// A row and a column, and no `Position`, since they are as the caller gave them, on the sheet or off it.
 #[derive(Clone, Copy)]
 pub enum Call {
     Put { row: u32, column: u32, id: u32 },

@@ -14,7 +14,7 @@ coming w k =
 
 -- what is given, with the style that it refers to
 abbrev pub seen : {S : Type 0} → Styled S → Seen S
-seen x = record { row = x.row; column = x.column; style = option_map (λ x. x.now) x.style }
+seen x = record { row = x.at.row; column = x.at.column; style = option_map (λ x. x.now) x.style }
 
 -- a step gives the position that comes next, and the others are still to come
 pub record Stepped {S : Type 0} (w : Walk S) (r : Option (Styled S)) (w' : Walk S) : Type 0 where

@@ -18,13 +18,20 @@ abbrev pub pack_number : PackRefusal → ℕ
 pack_number (pack.IdRuns needed) = 12
 pack_number (pack.KindRuns needed) = 13
 
+-- the text after the number: why, and for a pack also how many runs are needed
+abbrev pub put_reason : PutRefusal → List ℕ
+put_reason put.OffSheet = codes " (the position is off the sheet)"
+put_reason put.Full = codes " (the sheet has no room for another cell)"
+
+abbrev pub pack_reason : PackRefusal → List ℕ
+pack_reason (pack.IdRuns needed) = codes " " ++ (decimal needed ++ codes " (so many runs of style ids are needed)")
+pack_reason (pack.KindRuns needed) = codes " " ++ (decimal needed ++ codes " (so many runs of date kinds are needed)")
+
 abbrev pub put_text : PutRefusal → List ℕ
-put_text put.OffSheet = codes "refused 10 (the position is off the sheet)"
-put_text put.Full = codes "refused 11 (the sheet has no room for another cell)"
+put_text r = codes "refused " ++ (decimal (put_number r) ++ put_reason r)
 
 abbrev pub clear_text : ClearRefusal → List ℕ
-clear_text clear.OffSheet = codes "refused 10 (the position is off the sheet)"
+clear_text r = codes "refused " ++ (decimal (clear_number r) ++ codes " (the position is off the sheet)")
 
 abbrev pub pack_text : PackRefusal → List ℕ
-pack_text (pack.IdRuns needed) = codes "refused 12 " ++ (decimal needed ++ codes " (so many runs of style ids are needed)")
-pack_text (pack.KindRuns needed) = codes "refused 13 " ++ (decimal needed ++ codes " (so many runs of date kinds are needed)")
+pack_text r = codes "refused " ++ (decimal (pack_number r) ++ pack_reason r)

@@ -25,6 +25,7 @@ pub enum PutRefusal {
 }
 
 /// Why a clear was refused.
+// An enum of one case, since each call has a list of refusals of its own.
 #[derive(Clone, Copy, Debug, PartialEq, Eq)]
 pub enum ClearRefusal {
     /// The row or the column is off the sheet.
@@ -48,7 +49,7 @@ pub struct RunCounts {
 }
 
 impl PutRefusal {
-    /// The number of the refusal.
+    /// The number of the refusal, by which the project's rules name it.
     pub fn number(&self) -> u32
         ensures { result ≡ put_number self.now }
     {
@@ -60,7 +61,7 @@ impl PutRefusal {
 }
 
 impl ClearRefusal {
-    /// The number of the refusal.
+    /// The number of the refusal, by which the project's rules name it.
     pub fn number(&self) -> u32
         ensures { result ≡ clear_number self.now }
     {
@@ -71,7 +72,7 @@ impl ClearRefusal {
 }
 
 impl PackRefusal {
-    /// The number of the refusal.
+    /// The number of the refusal, by which the project's rules name it.
     pub fn number(&self) -> u32
         ensures { result ≡ pack_number self.now }
     {
@@ -90,13 +91,20 @@ impl From<cells::Full> for PutRefusal {
     }
 }
 
+// Each `Display` is by hand, since a derive (thiserror) would promise nothing of what is printed.
 impl fmt::Display for PutRefusal {
     ghost output = { λ x. Some (put_text x) };
 
     fn fmt<W: fmt::Write>(&self, f: &mut fmt::Formatter<W>) -> fmt::Result {
+        let number = self.number();
         match *self {
-            PutRefusal::OffSheet => f.write_str("refused 10 (the position is off the sheet)"),
-            PutRefusal::Full => f.write_str("refused 11 (the sheet has no room for another cell)"),
+            PutRefusal::OffSheet => write!(f, "refused {number} (the position is off the sheet)"),
+            PutRefusal::Full => {
+                write!(
+                    f,
+                    "refused {number} (the sheet has no room for another cell)"
+                )
+            }
         }
     }
 }
@@ -105,8 +113,9 @@ impl fmt::Display for ClearRefusal {
     ghost output = { λ x. Some (clear_text x) };
 
     fn fmt<W: fmt::Write>(&self, f: &mut fmt::Formatter<W>) -> fmt::Result {
+        let number = self.number();
         match *self {
-            ClearRefusal::OffSheet => f.write_str("refused 10 (the position is off the sheet)"),
+            ClearRefusal::OffSheet => write!(f, "refused {number} (the position is off the sheet)"),
         }
     }
 }
@@ -115,17 +124,18 @@ impl fmt::Display for PackRefusal {
     ghost output = { λ x. Some (pack_text x) };
 
     fn fmt<W: fmt::Write>(&self, f: &mut fmt::Formatter<W>) -> fmt::Result {
+        let number = self.number();
         match *self {
             PackRefusal::IdRuns { needed } => {
                 write!(
                     f,
-                    "refused 12 {needed} (so many runs of style ids are needed)"
+                    "refused {number} {needed} (so many runs of style ids are needed)"
                 )
             }
             PackRefusal::KindRuns { needed } => {
                 write!(
                     f,
-                    "refused 13 {needed} (so many runs of date kinds are needed)"
+                    "refused {number} {needed} (so many runs of date kinds are needed)"
                 )
             }
         }

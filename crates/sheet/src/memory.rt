@@ -19,6 +19,7 @@ pub struct SheetMemory {
 }
 
 /// The cells that are kept now, and the box and the runs of the latest accepted pack.
+// Put, clear, get and kind take a row and a column, and no `Position`, since any numbers may come.
 #[derive(Drop)]
 pub struct Sheet {
     cells: CellMemory,

@@ -5,7 +5,7 @@ ghost use Rattle.cells.specs.Area.{extent, size};
 ghost use Rattle.cells.specs.Going.{place};
 
 use crate::xf::Xf;
-use cells::Positions;
+use cells::{Position, Positions};
 use runs::RunWalk;
 
 mod steps;
@@ -13,8 +13,7 @@ mod steps;
 /// A position with its style: none where the id is past the palette.
 #[derive(Drop)]
 pub struct Styled<'p, S> {
-    pub row: u32,
-    pub column: u32,
+    pub at: Position,
     pub style: Option<&'p S>,
 }
 

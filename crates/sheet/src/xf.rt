@@ -5,7 +5,8 @@ ghost use Rattle.sheet.specs.Palette.{style_at, kind_at};
 
 use formats::CellFormat;
 
-/// A style and its date kind. The palette is a list of these, and a style id is an index of it.
+/// A style and its date kind. The palette is a list of these, and a style id is an index of it. It is a
+/// slice that is lent to each call, since each is given the palette as it then is.
 #[derive(Drop)]
 pub struct Xf<S> {
     pub style: S,

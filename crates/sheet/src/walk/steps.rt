@@ -18,10 +18,6 @@ impl<'s, 'p, S> Iterator for Walk<'s, 'p, S> {
     fn next(&mut self) -> Option<Styled<'p, S>> {
         let at = self.positions.next()?;
         let style = self.ids.next().and_then(|id| style_of(self.palette, id));
-        Some(Styled {
-            row: at.row(),
-            column: at.column(),
-            style,
-        })
+        Some(Styled { at, style })
     }
 }

@@ -21,7 +21,7 @@ returns-clause-steps g c =
     let style : option_map (λ x. x.now) c.and_then-style.result ≡ styled palette (mark_at runs p) =
     styled_by palette c.next-2.result c.and_then-style.result c.and_then-style.ensures (λ n made. search rules) ∙ ap (styled palette) (given.0 ∙ same) in
     record {
-      item = seen_there palette a runs p c.row.result c.column.result (option_map (λ x. x.now) c.and_then-style.result) inside (c.row.ensures ∙ at.item.1) (c.column.ensures ∙ at.item.2) style;
+      item = seen_there palette a runs p c.in_ok-at.at.row c.in_ok-at.at.column (option_map (λ x. x.now) c.and_then-style.result) inside at.item.1 at.item.2 style;
       rest = λ k.
           let area_same = ap extent at.area_same in
           let further : place c.next.new.self + k ≡ p + (k + 1) = let h = at.place_after in omega arith in
