@@ -13,7 +13,7 @@ pub use full::Full;
 #[derive(Drop)]
 pub struct CellMemory {
     cells: Vec<Cell>,
-    // A field, since a `Vec` of Rust may have a larger capacity than was asked for; that of Rattle has exactly so much.
+    // A field of its own: how many cells may be kept is what the maker asked for, whatever a capacity is.
     limit: usize,
     ghost ordered: { Ordered cells.items },
     ghost few: { vec_len cells ≤ limit },

@@ -86,8 +86,8 @@ impl PackRefusal {
 impl From<cells::Full> for PutRefusal {
     ghost from_gives = { λ _ refusal. refusal ≡ Full };
 
-    fn from(_: cells::Full) -> PutRefusal {
-        PutRefusal::Full
+    fn from(_: cells::Full) -> Self {
+        Self::Full
     }
 }
 

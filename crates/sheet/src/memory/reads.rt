@@ -1,6 +1,7 @@
 //! Reading what the latest accepted pack wrote.
 ghost use Rattle.std.specs.Prelude.{◌≡◌, ℕ};
 ghost use Rattle.std.specs.Option.{option_map};
+ghost use Rattle.runs.specs.Memory.{Rises, FirstAboveZero, ends_of};
 ghost use Rattle.cells.specs.Area.{extent};
 ghost use Rattle.sheet.specs.Contents.{held, id_runs, kind_runs};
 ghost use Rattle.sheet.specs.Reads.{mark_there, got, kind_there, walked};
@@ -64,14 +65,18 @@ impl Sheet {
 
     /// The runs of style ids.
     pub fn id_runs(&self) -> RunTable<'_, u32>
-        ensures { result ≡ id_runs self.now }
+        ensures runs { result ≡ id_runs self.now }
+        ensures rising { Rises (ends_of result) }
+        ensures first { FirstAboveZero (ends_of result) }
     {
         self.ids.table()
     }
 
     /// The runs of date kinds.
     pub fn kind_runs(&self) -> RunTable<'_, CellFormat>
-        ensures { result ≡ kind_runs self.now }
+        ensures runs { result ≡ kind_runs self.now }
+        ensures rising { Rises (ends_of result) }
+        ensures first { FirstAboveZero (ends_of result) }
     {
         self.kinds.table()
     }
