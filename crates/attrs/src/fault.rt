@@ -55,6 +55,7 @@ impl Flaw {
     }
 }
 
+// By hand, since a derive (thiserror) would promise nothing of what is printed.
 impl fmt::Display for Fault {
     ghost output = { λ x. Some (fault_text x) };
 

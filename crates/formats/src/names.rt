@@ -13,6 +13,7 @@ use std::str::FromStr;
 #[derive(Clone, Copy, Debug, PartialEq, Eq)]
 pub struct UnknownKind;
 
+// By hand, since a derive (thiserror) would promise nothing of what is printed.
 impl fmt::Display for UnknownKind {
     ghost output = { λ _. Some (codes "a kind is Other, DateTime or TimeDelta") };
 

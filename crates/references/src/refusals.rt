@@ -49,6 +49,7 @@ impl From<Malformed> for DecodeRefusal {
     }
 }
 
+// Each `Display` is by hand, since a derive (thiserror) would promise nothing of what is printed.
 impl fmt::Display for Malformed {
     ghost output = { λ x. Some (malformed_text x) };
 

@@ -8,6 +8,7 @@ use std::fmt;
 #[derive(Clone, Copy, Debug, PartialEq, Eq)]
 pub struct Full;
 
+// By hand, since a derive (thiserror) would promise nothing of what is printed.
 impl fmt::Display for Full {
     ghost output = { λ _. Some (codes "there is no room for another cell") };
 
