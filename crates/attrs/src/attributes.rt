@@ -1,14 +1,13 @@
 //! Attribute text, read item by item.
 ghost use Rattle.std.specs.Prelude.{◌≡◌, ℕ, ◌+◌, ◌^◌, ◌<◌, ◌≤◌, List, length, take, drop, Decides};
 ghost use Rattle.std.specs.Option as options;
+ghost use Rattle.attrs.specs.Grammar.{Attribute, First, Front, Has, WellFormed};
+ghost use Rattle.attrs.specs.Items.{left, attribute_of, Next, OneFirst, Found, LookUp, Checked, Unambiguous};
 
 use crate::bytes::{is_white, run_end};
 use crate::fault::{Fault, Flaw};
 use crate::item::{Item, key_bounds, value_bounds};
 use crate::seen::{key_number, note};
-
-/// From so many bytes on, attribute text is checked with a filter for very many keys.
-const LONG: usize = 2048;
 
 /// The attribute text of an element, or what is left of it: the text that it is a part of, up to
 /// its end, and the place of its first byte.
@@ -17,13 +16,9 @@ const LONG: usize = 2048;
 pub struct Attributes<'t> {
     text: &'t [u8],
     place: usize,
-    ghost inside: { place ≤ length text.now },
 }
 
 impl<'t> Attributes<'t> {
-    ghost use Rattle.attrs.specs.Grammar.{Attribute, First, Front, Has, WellFormed};
-    ghost use Rattle.attrs.specs.Items.{left, attribute_of, Next, OneFirst, Found, LookUp, Checked, Unambiguous};
-
     /// The part of the text at that place with so many bytes; none where it is not inside the text.
     pub fn part(text: &'t [u8], place: usize, count: usize) -> Option<Attributes<'t>>
         ensures { options.MatchOption result (length text.now < place + count) (λ a. (place + count ≤ length text.now) × (left a ≡ take count (drop place text.now)) × (a.place ≡ place)) }
@@ -44,6 +39,9 @@ impl<'t> Attributes<'t> {
         ensures one { OneFirst self.old.place (left self.old) }
     {
         let text = self.text;
+        if self.place >= text.len() {
+            return Ok(None);
+        }
         let place = run_end(text, self.place, is_white);
         if place == text.len() {
             return Ok(None);
@@ -82,44 +80,47 @@ impl<'t> Attributes<'t> {
         ensures checked { Checked self.now.place (left self.now) result }
         ensures unambiguous { Unambiguous self.now.place (left self.now) }
     {
-        if self.text.len() - self.place < LONG {
-            self.check_with::<16>()
+        if self.text.len().saturating_sub(self.place) < LONG {
+            check_with::<16>(self)
         } else {
-            self.check_with::<32768>()
+            check_with::<32768>(self)
         }
     }
+}
 
-    /// Whether an item that stands in the text repeats the key of an earlier one.
-    fn repeats(&self, item: &Item<'_>) -> bool
-        ensures { (items : List Attribute) (end : ℕ) (rest : List ℕ) (next : List ℕ) → Front self.now.place (left self.now) items end rest → First end rest (attribute_of item.now) next → Decides result (Has item.now.key.now items) }
-    {
-        matches!(self.find(item.key), Some(first) if first.key_place < item.key_place)
-    }
+/// From so many bytes on, attribute text is checked with a filter for very many keys.
+const LONG: usize = 2048;
 
-    /// Checks all items, with a filter of keys of so many words.
-    fn check_with<const WORDS: usize>(&self) -> Result<(), Fault>
-        requires some { 0 < WORDS }
-        requires few { WORDS < 2 ^ 32 }
-        ensures { Checked self.now.place (left self.now) result }
-    {
-        self.check_items(&mut [0; WORDS])
-    }
+/// Whether an item that stands in the text repeats the key of an earlier one.
+fn repeats(attributes: &Attributes<'_>, item: &Item<'_>) -> bool
+    ensures { (items : List Attribute) (end : ℕ) (rest : List ℕ) (next : List ℕ) → Front attributes.now.place (left attributes.now) items end rest → First end rest (attribute_of item.now) next → Decides result (Has item.now.key.now items) }
+{
+    matches!(attributes.find(item.key), Some(first) if first.key_place < item.key_place)
+}
 
-    /// Checks all items, with memory for a filter of keys.
-    // The words are a slice, since a check is slower by a seventh with a copy of the loop for each size.
-    fn check_items(&self, words: &mut [u64]) -> Result<(), Fault>
-        requires { 0 < length words.old }
-        ensures { Checked self.now.place (left self.now) result }
-    {
-        let mut rest = *self;
-        while let Some(item) = rest.next()? {
-            if note(words, key_number(item.key)) && self.repeats(&item) {
-                return Err(Fault {
-                    flaw: Flaw::Repeated,
-                    place: item.key_place,
-                });
-            }
+/// Checks all items, with a filter of keys of so many words.
+fn check_with<const WORDS: usize>(attributes: &Attributes<'_>) -> Result<(), Fault>
+    requires some { 0 < WORDS }
+    requires few { WORDS < 2 ^ 32 }
+    ensures { Checked attributes.now.place (left attributes.now) result }
+{
+    check_items(attributes, &mut [0; WORDS])
+}
+
+/// Checks all items, with memory for a filter of keys.
+// The words are a slice, since a check is slower by a seventh with a copy of the loop for each size.
+fn check_items(attributes: &Attributes<'_>, words: &mut [u64]) -> Result<(), Fault>
+    requires { 0 < length words.old }
+    ensures { Checked attributes.now.place (left attributes.now) result }
+{
+    let mut rest = *attributes;
+    while let Some(item) = rest.next()? {
+        if note(words, key_number(item.key)) && repeats(attributes, &item) {
+            return Err(Fault {
+                flaw: Flaw::Repeated,
+                place: item.key_place,
+            });
         }
-        Ok(())
     }
+    Ok(())
 }

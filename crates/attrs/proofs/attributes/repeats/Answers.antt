@@ -1,7 +1,7 @@
 use Rattle.std.proofs.Common.{true, false, Some, None, refl, rules}
 use Rattle.attrs.specs.Items.{attribute_of}
 use Rattle.attrs.proofs.Checking.{first_tells}
-use Rattle.attrs.proofs.attributes.Attributes.repeats.Goals as goal
+use Rattle.attrs.proofs.attributes.repeats.Goals as goal
 
 pub returns-in-Some : goal.returns-in-Some
 returns-in-Some c = first_tells _ _ (Some c.in-Some.first) (attribute_of c.args.item.now) true c.in-Some.ensures.found (search rules)

@@ -5,23 +5,23 @@ use Rattle.attrs.specs.Items.{attribute_of}
 use Rattle.attrs.specs.Seen.{Marked}
 use Rattle.attrs.proofs.Finding.{fewer_left}
 use Rattle.attrs.proofs.Checking.{sound_more, sound_repeated}
-use Rattle.attrs.proofs.attributes.Attributes.check_items.Goals as goal
-use Rattle.attrs.proofs.attributes.Attributes.check_items.Goals.{else-note-via-then-note+else-repeats, else-note-via-else-note}
+use Rattle.attrs.proofs.attributes.check_items.Goals as goal
+use Rattle.attrs.proofs.attributes.check_items.Goals.{else-note-via-then-note+else-repeats, else-note-via-else-note}
 
 pub returns-then-repeats : goal.returns-then-repeats
 returns-then-repeats c =
-    let text = c.args.self.now.text.now in
+    let text = c.args.attributes.now.text.now in
     let item : First c.loop-item.rest.place (drop c.loop-item.rest.place text) (attribute_of c.in-Some.item) (drop c.next.new.self.place text) = search rules in
     let sound = c.loop-item.invariant.sound in
     sound_repeated sound item ((c.repeats.ensures sound.items _ _ _ sound.front item).0 c.if-repeats.true)
 
 pub loop-item-smaller : goal.loop-item-smaller
 loop-item-smaller c =
-    fewer_left c.args.self.now.text.now _ _ (attribute_of c.in-Some.item) (drop c.next.new.self.place c.args.self.now.text.now) (search rules) (search rules)
+    fewer_left c.args.attributes.now.text.now _ _ (attribute_of c.in-Some.item) (drop c.next.new.self.place c.args.attributes.now.text.now) (search rules) (search rules)
 
 pub loop-item-preserved : goal.loop-item-preserved
 loop-item-preserved c =
-    let text = c.args.self.now.text.now in
+    let text = c.args.attributes.now.text.now in
     let item : First c.loop-item.rest.place (drop c.loop-item.rest.place text) (attribute_of c.in-Some.item) (drop (past (attribute_of c.in-Some.item)) text) = search rules in
     let at : c.next.new.self.place ≡ past (attribute_of c.in-Some.item) = search rules in
     let sound = c.loop-item.invariant.sound in
