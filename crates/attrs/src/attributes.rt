@@ -11,7 +11,8 @@ use crate::seen::{key_number, note};
 
 /// The attribute text of an element, or what is left of it: the text that it is a part of, up to
 /// its end, and the place of its first byte.
-// No `impl Model` with what is left as its value: a `Copy` struct with a lifetime can have none.
+// No `impl Model` with what is left as its value: a `Copy` struct with a lifetime can have none. No ghost
+// field that the place lies inside: with it, which was tried, a check is slower by a tenth.
 #[derive(Clone, Copy)]
 pub struct Attributes<'t> {
     text: &'t [u8],

@@ -26,6 +26,7 @@ pub(crate) struct KeyBounds {
 }
 
 /// The bounds of the key that begins at `start`; none where there is no key with an `=` after it.
+// The bytes and a place in them, and no slice from there on, since what is answered are places too.
 pub(crate) fn key_bounds(bytes: &[u8], start: usize) -> Option<KeyBounds>
     requires { start ≤ length bytes.now }
     ensures within { IfSome result (λ k. (start ≤ k.end) × (k.end ≤ k.equals) × (k.equals < length bytes.now)) }

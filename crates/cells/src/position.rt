@@ -22,6 +22,7 @@ impl Position {
     pub fn new(row: u32, column: u32) -> Option<Position>
         ensures { MatchOption result ((row < 1048576) × (column < 16384) → ⊥) (λ p. (p.row ≡ row) × (p.column ≡ column)) }
     {
+        // made after the test, as `then_some` would not do: no position off the sheet can be made
         if row < ROWS && column < COLUMNS {
             Some(Position { row, column })
         } else {

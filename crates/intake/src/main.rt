@@ -11,8 +11,8 @@ mod reply;
 mod session;
 mod style;
 
+use command::Command;
 use misread::Misread;
-use parsing::parse;
 use reply::Reply;
 use session::Session;
 use std::io;
@@ -31,7 +31,7 @@ fn is_passed_over(line: &[u8]) -> bool {
 /// Carries out what a line asks.
 fn answer<'s>(session: &'s mut Session, line: &[u8]) -> Result<Reply<'s>, Misread> {
     let text = std::str::from_utf8(line).map_err(|_| Misread::NotText)?;
-    session.carry_out(parse(text)?)
+    session.carry_out(text.parse::<Command>()?)
 }
 
 /// Writes a line with its answer, at once.

@@ -11,7 +11,7 @@ use formats::CellFormat;
 use replicas::Call;
 use sheet::Room;
 use std::num::IntErrorKind;
-use std::str::SplitWhitespace;
+use std::str::{FromStr, SplitWhitespace};
 
 /// The number that a word of digits alone writes.
 fn number_of(word: &str) -> Result<u32, Misread>
@@ -137,12 +137,16 @@ fn read_command(fields: &mut Fields<'_>) -> Result<Command, Misread> {
     }
 }
 
-/// The command of a line.
-pub fn parse(line: &str) -> Result<Command, Misread> {
-    let mut fields = Fields {
-        words: line.split_whitespace(),
-    };
-    let command = read_command(&mut fields)?;
-    fields.end()?;
-    Ok(command)
+/// Reads a line.
+impl FromStr for Command {
+    type Err = Misread;
+
+    fn from_str(line: &str) -> Result<Command, Misread> {
+        let mut fields = Fields {
+            words: line.split_whitespace(),
+        };
+        let command = read_command(&mut fields)?;
+        fields.end()?;
+        Ok(command)
+    }
 }

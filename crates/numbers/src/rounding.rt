@@ -54,7 +54,8 @@ fn doubled(dividend: u128, divisor: u128) -> (u128, u64)
     ensures least { result.0 * 2 ^ 52 ≤ dividend }
     ensures most { dividend < result.0 * 2 ^ 53 }
 {
-    // A count by `leading_zeros` can be one too many, and would need the test of this loop as well.
+    // A count by `leading_zeros` can be one too many, and would need the test of this loop as well. The
+    // limit is a constant: with `u128::from` in the loop, which was tried, the proof did not close.
     let mut unit = divisor;
     let mut count = 0;
     while unit * TOO_LONG <= dividend {

@@ -61,8 +61,12 @@ decode_number refusal.Malformed = 8
 decode_number (refusal.TooShort needed) = 14
 
 abbrev pub malformed_text : Malformed → List ℕ
-malformed_text m = codes "refused 8 (not UTF-8, or an & that begins no reference)"
+malformed_text m = codes "refused " ++ (decimal (malformed_number m) ++ codes " (not UTF-8, or an & that begins no reference)")
+
+-- what a refusal carries, and what was wrong
+abbrev pub decode_reason : DecodeRefusal → List ℕ
+decode_reason refusal.Malformed = codes " (outside the text, not UTF-8, or an & that begins no reference)"
+decode_reason (refusal.TooShort needed) = codes " " ++ (decimal needed ++ codes " (so many bytes are needed)")
 
 abbrev pub decode_text : DecodeRefusal → List ℕ
-decode_text refusal.Malformed = codes "refused 8 (outside the text, not UTF-8, or an & that begins no reference)"
-decode_text (refusal.TooShort needed) = codes "refused 14 " ++ (decimal needed ++ codes " (so many bytes are needed)")
+decode_text r = codes "refused " ++ (decimal (decode_number r) ++ decode_reason r)

@@ -54,7 +54,11 @@ impl fmt::Display for Malformed {
     ghost output = { λ x. Some (malformed_text x) };
 
     fn fmt<W: fmt::Write>(&self, f: &mut fmt::Formatter<W>) -> fmt::Result {
-        f.write_str("refused 8 (not UTF-8, or an & that begins no reference)")
+        let number = self.number();
+        write!(
+            f,
+            "refused {number} (not UTF-8, or an & that begins no reference)"
+        )
     }
 }
 
@@ -62,12 +66,14 @@ impl fmt::Display for DecodeRefusal {
     ghost output = { λ x. Some (decode_text x) };
 
     fn fmt<W: fmt::Write>(&self, f: &mut fmt::Formatter<W>) -> fmt::Result {
+        let number = self.number();
         match *self {
-            DecodeRefusal::Malformed => f.write_str(
-                "refused 8 (outside the text, not UTF-8, or an & that begins no reference)",
+            DecodeRefusal::Malformed => write!(
+                f,
+                "refused {number} (outside the text, not UTF-8, or an & that begins no reference)"
             ),
             DecodeRefusal::TooShort { needed } => {
-                write!(f, "refused 14 {needed} (so many bytes are needed)")
+                write!(f, "refused {number} {needed} (so many bytes are needed)")
             }
         }
     }

@@ -8,7 +8,7 @@ use Rattle.std.proofs.lemmas.List.{length-map, get_or_default}
 use Rattle.std.proofs.lemmas.Option.{slice_get-map, slice_get_within, get_or_from_slice_get}
 use Rattle.runs.specs.declared.run.Run.{Run}
 use Rattle.runs.specs.Runs.{mark_at}
-use Rattle.runs.specs.Memory.{Rises, FirstAboveZero, IsTable, runs_of, ends_of, last_end}
+use Rattle.runs.specs.Memory.{Rises, FirstAboveZero, Ascending, IsTable, runs_of, ends_of, last_end}
 
 -- marks and ends that are as many are those of their runs
 pub marks_of-runs_of : {M : Type 0} (marks : List M) (ends : List ℕ) → length marks ≡ length ends → map (λ r. r.mark) (runs_of marks ends) ≡ marks
@@ -27,7 +27,7 @@ length-runs_of marks ends level =
     sym (length-map (runs_of marks ends) (λ r. r.end)) ∙ ap length (ends_of-runs_of marks ends level)
 
 -- the ends of the runs of a table rise from above 0
-pub table_rises : {M : Type 0} (marks : List M) (ends : List ℕ) → IsTable marks ends → Rises (ends_of (runs_of marks ends)) × FirstAboveZero (ends_of (runs_of marks ends))
+pub table_rises : {M : Type 0} (marks : List M) (ends : List ℕ) → IsTable marks ends → Ascending (runs_of marks ends)
 table_rises marks ends table =
     subst (λ es. Rises es × FirstAboveZero es) (sym (ends_of-runs_of marks ends table.level)) (table.rising, table.first)
 

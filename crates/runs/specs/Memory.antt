@@ -31,6 +31,10 @@ Rises es = (i j : ℕ) → i < j → j < length es → slice_index es i < slice_
 abbrev pub FirstAboveZero : List ℕ → Type 0
 FirstAboveZero es = 0 < length es → 0 < slice_index es 0
 
+-- the ends of runs rise, from above 0
+abbrev pub Ascending : {M : Type 0} → List (Run M) → Type 0
+Ascending runs = Rises (ends_of runs) × FirstAboveZero (ends_of runs)
+
 -- Marks and ends of a table: there are as many of both, and the ends rise from above 0.
 pub record IsTable {M : Type 0} (marks : List M) (ends : List ℕ) : Type 0 where
   pub level : length marks ≡ length ends

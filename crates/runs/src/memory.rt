@@ -1,6 +1,6 @@
 //! Memory for a list of runs, of a length that its maker chose.
 ghost use Rattle.std.specs.Prelude.{◌≡◌, ℕ, ◌<◌, ◌≤◌, min, length, take, vec_len};
-ghost use Rattle.runs.specs.Memory.{Rises, FirstAboveZero, Packed, runs_of, ends_of};
+ghost use Rattle.runs.specs.Memory.{Rises, FirstAboveZero, Ascending, Packed, runs_of};
 ghost use Rattle.runs.specs.Marks.{mark_of};
 
 use crate::mark::Mark;
@@ -46,8 +46,7 @@ impl<M: Mark> RunMemory<M> {
     /// The runs, for reading.
     pub fn table(&self) -> RunTable<'_, M>
         ensures runs { result ≡ runs_of (take self.now.used self.now.marks.items) (take self.now.used self.now.ends.items) }
-        ensures rising { Rises (ends_of result) }
-        ensures first { FirstAboveZero (ends_of result) }
+        ensures ascending { Ascending result }
     {
         RunTable::over(&self.marks[0..self.used], &self.ends[0..self.used])
     }

@@ -4,7 +4,7 @@ ghost use Rattle.std.specs.List.{slice_get};
 ghost use Rattle.runs.specs.declared.run.Run.{Run};
 ghost use Rattle.runs.specs.Runs.{mark_at};
 ghost use Rattle.runs.specs.Going.{rest};
-ghost use Rattle.runs.specs.Memory.{Rises, FirstAboveZero, IsTable, runs_of, ends_of};
+ghost use Rattle.runs.specs.Memory.{Ascending, IsTable, runs_of};
 
 use crate::mark::Mark;
 use crate::run::Run;
@@ -33,8 +33,7 @@ impl<'m, M: Mark> RunTable<'m, M> {
     pub(crate) fn over(marks: &'m [M], ends: &'m [u64]) -> Self
         requires { IsTable marks.now ends.now }
         ensures runs { result ≡ runs_of marks.now ends.now }
-        ensures rising { Rises (ends_of result) }
-        ensures first { FirstAboveZero (ends_of result) }
+        ensures ascending { Ascending result }
     {
         RunTable { marks, ends }
     }
@@ -42,8 +41,7 @@ impl<'m, M: Mark> RunTable<'m, M> {
     /// How many runs there are. Their ends rise from above 0.
     pub fn count(&self) -> usize
         ensures value { result ≡ length self.now }
-        ensures rising { Rises (ends_of self.now) }
-        ensures first { FirstAboveZero (ends_of self.now) }
+        ensures ascending { Ascending self.now }
     {
         self.ends.len()
     }
@@ -61,6 +59,7 @@ impl<'m, M: Mark> RunTable<'m, M> {
         ensures { result ≡ slice_get self.now index }
     {
         let mark = *self.marks.get(index)?;
+        // there are as many ends as marks
         let end = self.ends[index];
         Some(Run { mark, end })
     }

@@ -19,6 +19,7 @@ use std::alloc::{AllocError, Global};
 fn stands_at(text: &[u8], place: usize, part: &[u8]) -> bool
     ensures { Decides result ((place ≤ length text.now) × Stands text.now place part.now) }
 {
+    // tested first: with `get` and a closure, which was tried, the proof did not close
     place <= text.len() && text[place..].starts_with(part)
 }
 

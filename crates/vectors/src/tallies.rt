@@ -46,6 +46,7 @@ fn count(counter: &mut u64)
 }
 
 /// What counters come to together.
+// A loop: with `fold`, which was tried, the proof did not close.
 fn total(counters: &[u64]) -> u64
     ensures { result ≡ capped (sum counters.now) }
 {

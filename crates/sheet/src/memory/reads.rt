@@ -1,7 +1,7 @@
 //! Reading what the latest accepted pack wrote.
 ghost use Rattle.std.specs.Prelude.{◌≡◌, ℕ};
 ghost use Rattle.std.specs.Option.{option_map};
-ghost use Rattle.runs.specs.Memory.{Rises, FirstAboveZero, ends_of};
+ghost use Rattle.runs.specs.Memory.{Ascending};
 ghost use Rattle.cells.specs.Area.{extent};
 ghost use Rattle.sheet.specs.Contents.{held, id_runs, kind_runs};
 ghost use Rattle.sheet.specs.Reads.{mark_there, got, kind_there, walked};
@@ -66,8 +66,7 @@ impl Sheet {
     /// The runs of style ids.
     pub fn id_runs(&self) -> RunTable<'_, u32>
         ensures runs { result ≡ id_runs self.now }
-        ensures rising { Rises (ends_of result) }
-        ensures first { FirstAboveZero (ends_of result) }
+        ensures ascending { Ascending result }
     {
         self.ids.table()
     }
@@ -75,8 +74,7 @@ impl Sheet {
     /// The runs of date kinds.
     pub fn kind_runs(&self) -> RunTable<'_, CellFormat>
         ensures runs { result ≡ kind_runs self.now }
-        ensures rising { Rises (ends_of result) }
-        ensures first { FirstAboveZero (ends_of result) }
+        ensures ascending { Ascending result }
     {
         self.kinds.table()
     }

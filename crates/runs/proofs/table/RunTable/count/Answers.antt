@@ -1,5 +1,5 @@
 use Rattle.std.proofs.Common.{length, sym, ap, ◌∙◌, subst}
-use Rattle.runs.specs.Memory.{Rises, FirstAboveZero, ends_of}
+use Rattle.runs.specs.Memory.{Ascending}
 use Rattle.runs.proofs.Places.{length-runs_of, table_rises}
 use Rattle.runs.proofs.table.RunTable.count.Goals as goal
 
@@ -9,6 +9,5 @@ returns g c =
     let rises = table_rises table.marks.now table.ends.now c.self.invariant in
     record {
       value = sym (length-runs_of table.marks.now table.ends.now c.self.invariant.level) ∙ ap length c.self.view_is;
-      rising = subst (λ runs. Rises (ends_of runs)) c.self.view_is rises.0;
-      first = subst (λ runs. FirstAboveZero (ends_of runs)) c.self.view_is rises.1;
+      ascending = subst Ascending c.self.view_is rises;
     }

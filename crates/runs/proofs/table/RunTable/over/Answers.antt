@@ -5,4 +5,4 @@ use Rattle.runs.proofs.table.RunTable.over.Goals as goal
 pub returns : goal.returns
 returns g c =
     let rises = table_rises c.args.marks.now c.args.ends.now c.requires in
-    record { runs = refl; rising = rises.0; first = rises.1 }
+    record { runs = refl; ascending = rises }

@@ -7,8 +7,8 @@ invariant_of-result g c =
     let mapped = length-map c.args.table (λ r. r.end) in
     record {
       few = omega arith;
-      rising = c.count.ensures.rising;
-      first = c.count.ensures.first;
+      rising = c.count.ensures.ascending.0;
+      first = c.count.ensures.ascending.1;
       before = λ k below. absurd (omega arith);
-      within = λ some. c.count.ensures.first (omega arith);
+      within = λ some. c.count.ensures.ascending.1 (omega arith);
     }
