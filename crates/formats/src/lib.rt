@@ -1,9 +1,8 @@
 //! Date kinds: what a cell's number format makes of its number.
 #![tactic(auto)]
 
-ghost use Rattle.formats.specs.Kinds.{kind_name};
+ghost use Rattle.formats.specs.Kinds.{same_kind, same_kind_decides, kind_name};
 ghost use Rattle.std.specs.Prelude.{Some};
-ghost use Rattle.std.proofs.Common.{rules};
 
 mod names;
 
@@ -21,7 +20,13 @@ pub enum CellFormat {
 
 /// Date kinds are marks.
 impl Mark for CellFormat {
-    ghost exact = { Prim.search rules };
+    ghost agrees = { same_kind };
+
+    ghost exact = { same_kind_decides };
+
+    fn same(&self, other: &CellFormat) -> bool {
+        *self == *other
+    }
 }
 
 impl fmt::Display for CellFormat {

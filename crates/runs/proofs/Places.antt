@@ -1,10 +1,11 @@
 -- Reading runs: the run that holds a place is the one before which all ends have passed.
-use Rattle.std.proofs.Common.{◌≡◌, ℕ, zero, suc, ◌+◌, ◌-◌, ◌<◌, ◌≤◌, ltb, leb, List, [], ◌∷◌, map, length, get_or, Some, sym, refl, ap, ◌∙◌, subst, arith, ◌⊎◌, ⊎_elim, true, false}
-use Rattle.std.specs.List.{slice_get}
+use Rattle.std.proofs.Common.{◌≡◌, ℕ, zero, suc, ◌+◌, ◌-◌, ◌<◌, ◌≤◌, ltb, leb, List, [], ◌∷◌, map, length, get_or, Some, sym, refl, ap, ap₂, ◌∙◌, subst, arith, ◌⊎◌, ⊎_elim, true, false, Bool, MatchBool, Decides}
+use Rattle.std.specs.List.{slice_get, range_with_len, AllWithin, HoldsAt}
 use Rattle.std.specs.List.Sorted.{IsPartitionedBy, IsPartitionPoint}
 use Rattle.std.specs.Option.{option_map}
-use Rattle.std.proofs.lemmas.Bool.{lt-ltb, le-ltb, le-leb, leb-true, leb-false, cond-true, cond-false, cases_eq}
+use Rattle.std.proofs.lemmas.Bool.{lt-ltb, le-ltb, le-leb, leb-true, leb-false, true≢false, cond-true, cond-false, cases_eq}
 use Rattle.std.proofs.lemmas.List.{length-map, get_or_default}
+use Rattle.std.proofs.lemmas.List.FromFn.{length-range_with_len, get_or-range_with_len}
 use Rattle.std.proofs.lemmas.Option.{slice_get-map, slice_get_within, get_or_from_slice_get}
 use Rattle.runs.specs.declared.run.Run.{Run}
 use Rattle.runs.specs.Runs.{mark_at}
@@ -52,6 +53,30 @@ slice_get-runs_of [] (x ∷ es) k d e h = absurd (omega arith)
 slice_get-runs_of (m ∷ ms) [] k d e h = absurd (omega arith)
 slice_get-runs_of (m ∷ ms) (x ∷ es) zero d e h = refl
 slice_get-runs_of (m ∷ ms) (x ∷ es) (suc k) d e h = slice_get-runs_of ms es k d (omega arith) (omega arith)
+
+-- lists with the same members are the same
+pub same_nth : {X : Type 0} (xs ys : List X) → length xs ≡ length ys → ((k : ℕ) → k < length xs → slice_get xs k ≡ slice_get ys k) → xs ≡ ys
+same_nth [] [] e f = refl
+same_nth [] (y ∷ ys) e f = absurd (omega arith)
+same_nth (x ∷ xs) [] e f = absurd (omega arith)
+same_nth (x ∷ xs) (y ∷ ys) e f =
+    let first : Some x ≡ Some y = f 0 (omega arith) in
+    let heads : x ≡ y = cc in
+    ap₂ ◌∷◌ heads (same_nth xs ys (omega arith) (λ k h. f (suc k) (omega arith)))
+
+-- what a test of all indices of two lists tells of them
+pub same_from_indices : {X : Type 0} (xs ys : List X) (r : Bool) → length xs ≡ length ys
+    → MatchBool r (AllWithin (λ k. slice_get xs k ≡ slice_get ys k) (range_with_len 0 (length xs)) 0 (length (range_with_len 0 (length xs)))) ((k : ℕ) × (k < length (range_with_len 0 (length xs))) × HoldsAt (λ k. slice_get xs k ≡ slice_get ys k → ⊥) (range_with_len 0 (length xs)) k)
+    → Decides r (xs ≡ ys)
+same_from_indices xs ys true level all = (
+  (λ _. same_nth xs ys level (λ k below.
+      let counted = length-range_with_len 0 (length xs) in
+      let index : get_or (range_with_len 0 (length xs)) k 0 ≡ k = omega (arith, get_or-range_with_len 0 (length xs) k 0 below) in
+      subst (λ i. slice_get xs i ≡ slice_get ys i) index (all k 0 (omega arith) (omega (arith, counted))))),
+  (λ _. refl),
+)
+same_from_indices xs ys false level differs =
+    ((λ no. absurd (true≢false (sym no))), (λ same. absurd (differs.2 0 (ap (λ l. slice_get l (get_or (range_with_len 0 (length xs)) differs.0 0)) same))))
 
 -- ends that rise lie below a place and then above it
 pub rises_parted : (ends : List ℕ) (place : ℕ) → Rises ends → IsPartitionedBy (λ e. leb e place) ends

@@ -40,7 +40,7 @@ fn extend<M: Mark>(tail: Tail<M>, marks: &mut [M], ends: &mut [u64], mark: M, up
     if upto == tail.end {
         return tail;
     }
-    let index = if tail.count > 0 && tail.mark == mark {
+    let index = if tail.count > 0 && tail.mark.same(&mark) {
         tail.count - 1
     } else {
         tail.count

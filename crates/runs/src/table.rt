@@ -28,6 +28,17 @@ impl<'m, M> Model for RunTable<'m, M> {
     ghost invariant = { λ t. IsTable t.marks.now t.ends.now };
 }
 
+/// Whether two runs, or their absences, are the same.
+fn same_run<M: Mark>(one: Option<Run<M>>, other: Option<Run<M>>) -> bool
+    ensures { Decides result (one ≡ other) }
+{
+    match (one, other) {
+        (Some(a), Some(b)) => a.end == b.end && a.mark.same(&b.mark),
+        (None, None) => true,
+        _ => false,
+    }
+}
+
 impl<'m, M: Mark> RunTable<'m, M> {
     /// The table over marks and ends that are as many, where the ends rise from above 0.
     pub(crate) fn over(marks: &'m [M], ends: &'m [u64]) -> Self
@@ -74,11 +85,11 @@ impl<'m, M: Mark> RunTable<'m, M> {
         }
     }
 
-    /// Whether two tables hold the same runs. A `==` would say less: over any kind of mark it does not
-    /// promise that equal tables are one.
+    /// Whether two tables hold the same runs. It reads no further than the first run that differs.
     pub fn same(&self, other: &RunTable<'_, M>) -> bool
         ensures { Decides result (self.now ≡ other.now) }
     {
-        self.marks == other.marks && self.ends == other.ends
+        self.count() == other.count()
+            && (0..self.count()).all(|index| same_run(self.run(index), other.run(index)))
     }
 }

@@ -24,6 +24,6 @@ returns g c =
       alike = alike_from_words palette C R calls s C' R' calls' t one other;
       unlike = words_from_runs palette C R calls s C' R' calls' t one other;
       answer = c.agree-agree.ensures;
-      shortest = shortest_exists g.M.PartialEq.eq g.met.M.Mark.exact;
+      shortest = shortest_exists g.M.Mark.agrees g.met.M.Mark.exact;
       refused = refused_exactly;
     }

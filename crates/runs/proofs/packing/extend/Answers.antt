@@ -1,22 +1,21 @@
-use Rattle.std.proofs.Common.{◌≡◌, Bool, ◌<◌, refl, inl, inr, ⊎_elim, arith}
-use Rattle.std.proofs.lemmas.Bool.Decides.{not_from_Decides, Decides-at}
+use Rattle.std.proofs.Common.{◌<◌, refl, inl, inr, ⊎_elim, arith}
+use Rattle.std.proofs.lemmas.Bool.Decides.{not_from_Decides}
 use Rattle.runs.proofs.Steps.{Chosen, written_more}
 use Rattle.runs.proofs.packing.extend.Goals as goal
-use Rattle.runs.proofs.packing.extend.Goals.{then-tail-gt0+then-eq, else-tail-gt0, else-tail-gt0-via-then-tail-gt0+else-eq, else-tail-gt0-via-else-tail-gt0}
+use Rattle.runs.proofs.packing.extend.Goals.{then-tail-gt0+then-same, else-tail-gt0, else-tail-gt0-via-then-tail-gt0+else-same, else-tail-gt0-via-else-tail-gt0}
 
 pub returns : goal.returns
 returns g c =
     let tail = c.args.tail in
     let index = c.if-tail-gt0.index in
-    let decided = λ (r : Bool) (is : r ≡ g.M.PartialEq.eq tail.mark c.args.mark). Decides-at r (g.M.PartialEq.eq tail.mark c.args.mark) is (g.met.M.Mark.exact tail.mark c.args.mark) in
     let forward : tail.end < c.args.upto = omega arith in
     let chosen : Chosen tail.count tail.mark c.args.mark index =
     elim c.if-tail-gt0.branch [
-      | then-tail-gt0+then-eq w ↦ inl (omega (arith, w.index-is), (decided w.eq.result w.eq.ensures).0 w.if-eq.true)
+      | then-tail-gt0+then-same w ↦ inl (omega (arith, w.index-is), w.same.ensures.0 w.if-same.true)
       | else-tail-gt0 w ↦
           elim w.else-tail-gt0.branch [
-            | else-tail-gt0-via-then-tail-gt0+else-eq w' ↦
-                inr (w.index-is, λ _. not_from_Decides w'.eq.result (decided w'.eq.result w'.eq.ensures) w'.if-eq.false)
+            | else-tail-gt0-via-then-tail-gt0+else-same w' ↦
+                inr (w.index-is, λ _. not_from_Decides w'.same.result w'.same.ensures w'.if-same.false)
             | else-tail-gt0-via-else-tail-gt0 w' ↦ inr (w.index-is, λ some. absurd (omega arith))
           ]
     ] in
