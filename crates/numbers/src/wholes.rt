@@ -12,5 +12,5 @@ pub fn whole<N: Whole>(text: &[u8]) -> Option<N>
     ensures value { option_map N.Whole.amount result ≡ whole_number N.Whole.limit text.now }
     ensures positional { Positional }
 {
-    N::try_from(number(text)?).ok()
+    N::narrow(number(text)?)
 }

@@ -1,23 +1,24 @@
 //! The types of whole number that an attribute may be read as.
-ghost use Rattle.std.specs.Prelude.{◌≡◌, ℕ, ◌^◌, ◌≤◌, Result};
+ghost use Rattle.std.specs.Prelude.{◌≡◌, ℕ, ◌^◌, ◌≤◌};
 ghost use Rattle.std.specs.Option.{option_map};
-ghost use Rattle.std.specs.Result.{result_ok};
 ghost use Rattle.numbers.specs.Numerals.{below};
-ghost use Rattle.numbers.specs.Widths.{narrows_to};
 ghost use Rattle.std.proofs.Common.{lit≤};
 
 /// A type of whole number that an attribute may be read as.
-pub trait Whole: TryFrom<u64, Error: Drop> {
+pub trait Whole: Sized {
     /// The number that a value is.
     ghost amount: { Self → ℕ };
 
     /// The first number that is too large for the type.
     ghost limit: { ℕ };
 
-    ghost bounded: { limit ≤ 2 ^ 64 };
+    /// The value that is the number, where the type has one.
+    // A function, and no `TryFrom<u64>`: a type with no such conversion, or with one that means another thing, can be a
+    // `Whole` too.
+    fn narrow(number: u64) -> Option<Self>
+        ensures { option_map amount result ≡ below limit number };
 
-    /// What a number converts into is the value that is the number, where the type has one.
-    ghost narrows: { (n : ℕ) (r : Result Self Self.Error) → Self.try_from_gives n r → option_map amount (result_ok r) ≡ below limit n };
+    ghost bounded: { limit ≤ 2 ^ 64 };
 }
 
 // The four impls are alike, and are written out: the check of the project refuses an impl that a macro of its own writes.
@@ -28,7 +29,10 @@ impl Whole for u8 {
 
     ghost bounded = { lit≤ tt };
 
-    ghost narrows = { narrows_to 8 };
+    #[tactic(auto, using(crate::specs::Widths::narrows_to))]
+    fn narrow(number: u64) -> Option<u8> {
+        u8::try_from(number).ok()
+    }
 }
 
 impl Whole for u16 {
@@ -38,7 +42,10 @@ impl Whole for u16 {
 
     ghost bounded = { lit≤ tt };
 
-    ghost narrows = { narrows_to 16 };
+    #[tactic(auto, using(crate::specs::Widths::narrows_to))]
+    fn narrow(number: u64) -> Option<u16> {
+        u16::try_from(number).ok()
+    }
 }
 
 impl Whole for u32 {
@@ -48,7 +55,10 @@ impl Whole for u32 {
 
     ghost bounded = { lit≤ tt };
 
-    ghost narrows = { narrows_to 32 };
+    #[tactic(auto, using(crate::specs::Widths::narrows_to))]
+    fn narrow(number: u64) -> Option<u32> {
+        u32::try_from(number).ok()
+    }
 }
 
 impl Whole for usize {
@@ -58,5 +68,8 @@ impl Whole for usize {
 
     ghost bounded = { lit≤ tt };
 
-    ghost narrows = { narrows_to 64 };
+    #[tactic(auto, using(crate::specs::Widths::narrows_to))]
+    fn narrow(number: u64) -> Option<usize> {
+        usize::try_from(number).ok()
+    }
 }
