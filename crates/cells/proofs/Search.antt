@@ -1,7 +1,7 @@
 -- What a search among cells in order finds.
-use Rattle.std.proofs.Common.{◌≡◌, ℕ, ◌-◌, ◌<◌, ◌≤◌, true, List, length, get_or, Some, Ok, Err, Result, sym, ap, ◌∙◌, arith}
+use Rattle.std.proofs.Common.{◌≡◌, ℕ, ◌-◌, ◌<◌, List, length, get_or, Ok, Err, Result, sym, ap, arith}
 use Rattle.std.specs.List.Sorted.{IsSearchInRange, IsBinarySearchResult, IsNonDecreasingBy}
-use Rattle.std.specs.Ordering.{nat_cmp, ordering_index, ordering_then, partial_ordering_then, is_lt, is_some_and}
+use Rattle.std.specs.Ordering.{nat_cmp, ordering_index}
 use Rattle.std.specs.declared.cmp.Ordering.{Ordering}
 use Rattle.std.proofs.lemmas.Cmp.{ranked}
 use Rattle.std.proofs.lemmas.Bool.Decides.{nat_tests}
@@ -11,16 +11,9 @@ use Rattle.cells.specs.Words.{number, Ordered}
 use Rattle.cells.specs.Located.{Absent, Located}
 use Rattle.cells.proofs.Order.{ordered_at}
 
--- by row, and in a row by column
-abbrev pub by_place : Position → Position → Ordering
-by_place p q = ordering_then (nat_cmp p.row q.row) (nat_cmp p.column q.column)
-
--- which is the order of the numbers
-pub by_number : (p q : Position) → by_place p q ≡ nat_cmp (number p) (number q)
-by_number p q = let a = p.column_within in let b = q.column_within in grind (arith, nat_tests)
-
-pub earlier : (p q : Position) → is_some_and is_lt (partial_ordering_then (Some (nat_cmp p.row q.row)) (Some (nat_cmp p.column q.column))) ≡ true → number p < number q
-earlier p q h = let a = p.column_within in let b = q.column_within in grind (arith, nat_tests)
+-- how the number of a cell's position compares with that of a position
+abbrev pub by_number : Position → Cell → Ordering
+by_number p x = nat_cmp (number x.at) (number p)
 
 module _ (cells : List Cell) (o : Ordered cells) (p : Position) where
   -- where the last cell comes before a position, all do
@@ -33,16 +26,13 @@ module _ (cells : List Cell) (o : Ordered cells) (p : Position) where
       }
 
   -- the comparisons with the position rise along the cells
-  comparisons_rise : IsNonDecreasingBy (λ (x : Cell). ordering_index (by_place x.at p)) cells
-  comparisons_rise i j d le h = rw (by_number, by_number) (rises i j d le h)
-    where
-      rises : (i j : ℕ) (d : Cell) → i ≤ j → j < length cells → ordering_index (nat_cmp (number (get_or cells i d).at) (number p)) ≤ ordering_index (nat_cmp (number (get_or cells j d).at) (number p))
-      rises i j d le h = grind (arith, nat_tests, ordered_at cells o i j d, λ (e : i ≡ j). ap (λ k. number (get_or cells k d).at) e)
+  comparisons_rise : IsNonDecreasingBy (λ (x : Cell). ordering_index (by_number p x)) cells
+  comparisons_rise i j d le h = grind (arith, nat_tests, ordered_at cells o i j d, λ (e : i ≡ j). ap (λ k. number (get_or cells k d).at) e)
 
-  -- a binary search by position ends at the cell there, or where a new one goes
-  pub searched : (r : Result ℕ ℕ) → IsSearchInRange r (length cells) → IsBinarySearchResult (λ (x : Cell). by_place x.at p) cells r → Located cells p r
+  -- a binary search by number ends at the cell there, or where a new one goes
+  pub searched : (r : Result ℕ ℕ) → IsSearchInRange r (length cells) → IsBinarySearchResult (by_number p) cells r → Located cells p r
   searched (Ok i) within equal =
-      let at : (d : Cell) → number (get_or cells i d).at ≡ number p = λ d. ranked (number (get_or cells i d).at) (number p) _ (sym (equal d) ∙ by_number (get_or cells i d).at p) in
+      let at : (d : Cell) → number (get_or cells i d).at ≡ number p = λ d. ranked (number (get_or cells i d).at) (number p) _ (sym (equal d)) in
       record {
         within = within;
         at = at;
@@ -52,6 +42,6 @@ module _ (cells : List Cell) (o : Ordered cells) (p : Position) where
   searched (Err i) within parted =
       record {
         within = within;
-        before = λ k d h. ranked _ (number p) _ (sym ((parted comparisons_rise).0 k d (omega arith) h) ∙ by_number (get_or cells k d).at p);
-        after = λ k d h l. ranked _ (number p) _ (sym ((parted comparisons_rise).1 k d h l) ∙ by_number (get_or cells k d).at p);
+        before = λ k d h. ranked _ (number p) _ (sym ((parted comparisons_rise).0 k d (omega arith) h));
+        after = λ k d h l. ranked _ (number p) _ (sym ((parted comparisons_rise).1 k d h l));
       }

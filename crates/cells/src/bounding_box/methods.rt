@@ -1,5 +1,5 @@
 //! What a bounding box is asked.
-ghost use Rattle.std.specs.Prelude.{◌≡◌};
+ghost use Rattle.std.specs.Prelude.{◌≡◌, Decides};
 ghost use Rattle.cells.specs.Area.{extent, width, size, place_of, grown};
 
 use crate::bounding_box::BoundingBox;
@@ -68,5 +68,13 @@ impl BoundingBox {
         }
         let rows_above = u64::from(row - self.start.row);
         Some(rows_above * self.width() + u64::from(column - self.start.column))
+    }
+
+    /// Whether two boxes are the same.
+    // The derived `==`, here for what it says of the area that a box covers.
+    pub fn same(&self, other: &BoundingBox) -> bool
+        ensures { Decides result (extent self.now ≡ extent other.now) }
+    {
+        *self == *other
     }
 }
