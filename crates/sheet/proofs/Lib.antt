@@ -1,3 +1,4 @@
 pub mod Placing
 pub mod Packs
 pub mod Walks
+pub mod Texts

@@ -6,7 +6,8 @@ use Rattle.runs.specs.Runs.{Packing}
 use Rattle.runs.specs.Marks.{mark_of}
 use Rattle.runs.specs.Memory.{Packed, runs_of}
 use Rattle.runs.specs.declared.memory.RunMemory.{RunMemory}
-use Rattle.runs.proofs.Laws.{packing_same, front_runs}
+use Rattle.runs.proofs.Laws.{packing_same, packing_exists, front_runs}
+use Rattle.formats.specs.Kinds.{same_kind, same_kind_decides}
 use Rattle.formats.specs.declared.CellFormat.{CellFormat}
 use Rattle.cells.specs.declared.cell.Cell.{Cell}
 use Rattle.cells.specs.Area.{Area, size, row_at, column_at}
@@ -64,6 +65,10 @@ holds_packed spot n needed m m' p used_by marks_len ends_len fits =
 
     used_is : m'.used ≡ length p.runs
     used_is = omega arith
+
+-- date kinds can be compared, so that packing's list exists
+pub kinds_exist : (spot : ℕ → CellFormat) (n : ℕ) → (runs : List (Run CellFormat)) × Packing spot n runs
+kinds_exist = packing_exists same_kind same_kind_decides
 
 -- what pack makes of the words of a list whose least box is `a`, with packing's lists of the marks of its cells
 abbrev pub made_of : {S : Type 0} (palette : List (Xf S)) (a : Area) (xs ys : List Cell) (ids : List (Run ℕ)) (kinds : List (Run CellFormat)) → xs ≡ ys → Least (words_of ys) a

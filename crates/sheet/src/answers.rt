@@ -91,20 +91,15 @@ impl From<cells::Full> for PutRefusal {
     }
 }
 
-// Each `Display` is by hand, since a derive (thiserror) would promise nothing of what is printed.
+// Each `Display` is by hand, since a derive (thiserror) would promise nothing of what is printed. The numbers stand in the
+// texts, so that a refusal without a count is written in one piece: a writer with no room for it has then written nothing of it.
 impl fmt::Display for PutRefusal {
     ghost output = { λ x. Some (put_text x) };
 
     fn fmt<W: fmt::Write>(&self, f: &mut fmt::Formatter<W>) -> fmt::Result {
-        let number = self.number();
         match *self {
-            PutRefusal::OffSheet => write!(f, "refused {number} (the position is off the sheet)"),
-            PutRefusal::Full => {
-                write!(
-                    f,
-                    "refused {number} (the sheet has no room for another cell)"
-                )
-            }
+            PutRefusal::OffSheet => f.write_str("refused 10 (the position is off the sheet)"),
+            PutRefusal::Full => f.write_str("refused 11 (the sheet has no room for another cell)"),
         }
     }
 }
@@ -113,9 +108,8 @@ impl fmt::Display for ClearRefusal {
     ghost output = { λ x. Some (clear_text x) };
 
     fn fmt<W: fmt::Write>(&self, f: &mut fmt::Formatter<W>) -> fmt::Result {
-        let number = self.number();
         match *self {
-            ClearRefusal::OffSheet => write!(f, "refused {number} (the position is off the sheet)"),
+            ClearRefusal::OffSheet => f.write_str("refused 10 (the position is off the sheet)"),
         }
     }
 }
@@ -124,18 +118,17 @@ impl fmt::Display for PackRefusal {
     ghost output = { λ x. Some (pack_text x) };
 
     fn fmt<W: fmt::Write>(&self, f: &mut fmt::Formatter<W>) -> fmt::Result {
-        let number = self.number();
         match *self {
             PackRefusal::IdRuns { needed } => {
                 write!(
                     f,
-                    "refused {number} {needed} (so many runs of style ids are needed)"
+                    "refused 12 {needed} (so many runs of style ids are needed)"
                 )
             }
             PackRefusal::KindRuns { needed } => {
                 write!(
                     f,
-                    "refused {number} {needed} (so many runs of date kinds are needed)"
+                    "refused 13 {needed} (so many runs of date kinds are needed)"
                 )
             }
         }

@@ -32,21 +32,21 @@ impl Sheet {
             marking: Kinds { palette },
         };
         let room = self.ids.room().min(self.kinds.room());
-        let counts = RunCounts {
-            ids: needed::<u32, _>(&ids),
-            kinds: needed::<CellFormat, _>(&kinds),
-        };
-        if counts.ids > room {
-            return Err(PackRefusal::IdRuns { needed: counts.ids });
+        // ids first, so that a pack that is refused for them does not count the kinds
+        let id_runs = needed::<u32, _>(&ids);
+        if id_runs > room {
+            return Err(PackRefusal::IdRuns { needed: id_runs });
         }
-        if counts.kinds > room {
-            return Err(PackRefusal::KindRuns {
-                needed: counts.kinds,
-            });
+        let kind_runs = needed::<CellFormat, _>(&kinds);
+        if kind_runs > room {
+            return Err(PackRefusal::KindRuns { needed: kind_runs });
         }
         self.ids.write(&ids);
         self.kinds.write(&kinds);
         self.area = Some(area);
-        Ok(counts)
+        Ok(RunCounts {
+            ids: id_runs,
+            kinds: kind_runs,
+        })
     }
 }
