@@ -126,13 +126,14 @@ ascii_name (b ∷ bs) (inr l, all) zero = omega arith
 ascii_name (b ∷ bs) all (suc i) = ascii_name bs all.1 i
 
 -- what a numeral's reader answers, as the answer for the name that it stands in
-pub hexadecimal_answers : (number digits : List ℕ) (r : Option ℕ) → number ≡ 120 ∷ digits → MatchOption r ((c : ℕ) → Numbered 16 digits c → ⊥) (λ c. Numbered 16 digits c) → MatchOption r ((c : ℕ) → Means (35 ∷ number) c → ⊥) (λ c. Means (35 ∷ number) c)
-hexadecimal_answers number digits None is none = λ c m. none c (means_hexadecimal digits m (ap (λ l. 35 ∷ l) is))
-hexadecimal_answers number digits (Some c) is n = subst (λ l. Means (35 ∷ l) c) (sym is) (hexadecimal n)
+pub hexadecimal_answers : (number digits bytes : List ℕ) (r : Option ℕ) → number ≡ 120 ∷ digits → bytes ≡ digits → MatchOption r ((c : ℕ) → Numbered 16 bytes c → ⊥) (λ c. Numbered 16 bytes c) → MatchOption r ((c : ℕ) → Means (35 ∷ number) c → ⊥) (λ c. Means (35 ∷ number) c)
+hexadecimal_answers number digits bytes None is same none = λ c m. none c (subst (λ l. Numbered 16 l c) (sym same) (means_hexadecimal digits m (ap (λ l. 35 ∷ l) is)))
+hexadecimal_answers number digits bytes (Some c) is same n =
+    subst (λ l. Means (35 ∷ l) c) (sym is) (hexadecimal (subst (λ l. Numbered 16 l c) same n))
 
-pub decimal_answers : (number : List ℕ) (r : Option ℕ) → ((rest : List ℕ) → number ≡ 120 ∷ rest → ⊥) → MatchOption r ((c : ℕ) → Numbered 10 number c → ⊥) (λ c. Numbered 10 number c) → MatchOption r ((c : ℕ) → Means (35 ∷ number) c → ⊥) (λ c. Means (35 ∷ number) c)
-decimal_answers number None no_letter none = λ c m. none c (means_decimal number m refl no_letter)
-decimal_answers number (Some c) no_letter n = decimal n
+pub decimal_answers : (number bytes : List ℕ) (r : Option ℕ) → ((rest : List ℕ) → number ≡ 120 ∷ rest → ⊥) → bytes ≡ number → MatchOption r ((c : ℕ) → Numbered 10 bytes c → ⊥) (λ c. Numbered 10 bytes c) → MatchOption r ((c : ℕ) → Means (35 ∷ number) c → ⊥) (λ c. Means (35 ∷ number) c)
+decimal_answers number bytes None no_letter same none = λ c m. none c (subst (λ l. Numbered 10 l c) (sym same) (means_decimal number m refl no_letter))
+decimal_answers number bytes (Some c) no_letter same n = decimal (subst (λ l. Numbered 10 l c) same n)
 
 pub entity_answers : (name : List ℕ) (r : Option ℕ) → ((rest : List ℕ) → name ≡ 35 ∷ rest → ⊥) → MatchOption r ((c : ℕ) → Entity name c → ⊥) (λ c. Entity name c) → MatchOption r ((c : ℕ) → Means name c → ⊥) (λ c. Means name c)
 entity_answers name None no_hash none = λ c m. none c (means_entity m no_hash)

@@ -49,16 +49,13 @@ impl From<Malformed> for DecodeRefusal {
     }
 }
 
-// Each `Display` is by hand, since a derive (thiserror) would promise nothing of what is printed.
+// Each `Display` is by hand, since a derive (thiserror) would promise nothing of what is printed. The numbers stand in the
+// texts, so that a refusal without a count is written in one piece: a writer with no room for it has then written nothing of it.
 impl fmt::Display for Malformed {
     ghost output = { λ x. Some (malformed_text x) };
 
     fn fmt<W: fmt::Write>(&self, f: &mut fmt::Formatter<W>) -> fmt::Result {
-        let number = self.number();
-        write!(
-            f,
-            "refused {number} (not UTF-8, or an & that begins no reference)"
-        )
+        f.write_str("refused 8 (not UTF-8, or an & that begins no reference)")
     }
 }
 
@@ -66,14 +63,12 @@ impl fmt::Display for DecodeRefusal {
     ghost output = { λ x. Some (decode_text x) };
 
     fn fmt<W: fmt::Write>(&self, f: &mut fmt::Formatter<W>) -> fmt::Result {
-        let number = self.number();
         match *self {
-            DecodeRefusal::Malformed => write!(
-                f,
-                "refused {number} (outside the text, not UTF-8, or an & that begins no reference)"
+            DecodeRefusal::Malformed => f.write_str(
+                "refused 8 (outside the text, not UTF-8, or an & that begins no reference)",
             ),
             DecodeRefusal::TooShort { needed } => {
-                write!(f, "refused {number} {needed} (so many bytes are needed)")
+                write!(f, "refused 14 {needed} (so many bytes are needed)")
             }
         }
     }

@@ -5,12 +5,12 @@ use Rattle.references.proofs.reference.by_number.Goals as goal
 
 pub returns-in-Some : goal.returns-in-Some
 returns-in-Some c =
-    hexadecimal_answers c.args.number.now c.in-Some.digits.now c.numbered.result
+    hexadecimal_answers c.args.number.now c.in-Some.digits.now c.as_bytes.result.now c.numbered.result
     (strip_prefix_char 120 c.args.number.now (Some c.in-Some.digits) c.in-Some.ensures.cases (lit< tt))
-    c.numbered.ensures
+    c.as_bytes.ensures.value c.numbered.ensures
 
 pub returns-in-None : goal.returns-in-None
 returns-in-None c =
-    decimal_answers c.args.number.now c.numbered-in-None.result
+    decimal_answers c.args.number.now c.as_bytes-in-None.result.now c.numbered-in-None.result
     (strip_prefix_char 120 c.args.number.now None c.in-None.ensures.cases (lit< tt))
-    c.numbered-in-None.ensures
+    c.as_bytes-in-None.ensures.value c.numbered-in-None.ensures
