@@ -1,16 +1,31 @@
-use Rattle.std.proofs.Common.{rules, arith, drop, ◌<◌, ◌≡◌, true, false, ◌∙◌}
-use Rattle.std.proofs.lemmas.List.{take_rest}
-use Rattle.std.proofs.lemmas.Iterator.{IsFirst-from_position, YieldsList-from_slice}
-use borrow.Author.Tests.{tests}
-use Rattle.attrs.proofs.Runs.{run_from}
+use Rattle.std.proofs.Common.{◌<◌, get_or, sym, ◌∙◌, arith}
+use Rattle.attrs.proofs.Runs.{run_more, stops}
 use Rattle.attrs.proofs.bytes.run_end.Goals as goal
+use Rattle.attrs.proofs.bytes.run_end.Goals.{then-loop-at-test+else-test, else-loop-at-test}
+
+pub loop-at-preserved : goal.loop-at-preserved
+loop-at-preserved g c =
+    let bytes = c.args.bytes.now in
+    let at = c.loop-at.at in
+    let low : get_or bytes at 0 < 256 = omega (arith, c.type_inv.bytes at) in (
+      omega arith,
+      omega arith,
+      λ passes told.
+          run_more passes bytes c.args.from at (omega arith) (omega arith) (c.loop-at.invariant.2 passes told)
+          (sym (told (get_or bytes at 0) c.test.result low c.test.ensures) ∙ c.if-test.true),
+    )
 
 pub returns-clause-run : goal.returns-clause-run
-returns-clause-run g c p told =
+returns-clause-run g c passes told =
     let bytes = c.args.bytes.now in
-    let from = c.args.from in
-    run_from p bytes from c.map_or.result c.position.result c.requires.inside (λ i. omega (arith, c.type_inv.bytes i))
-    (IsFirst-from_position _ _ c.position.result (λ b. b < 256 → p b ≡ false) (λ b. b < 256 → p b ≡ true) c.position.ensures.ran
-    (YieldsList-from_slice (drop from bytes) (c.iter.ensures.rest ∙ take_rest bytes from))
-    (λ x q k low. search (rules, tests, told)) (λ x q k. (search (rules, tests), λ low. search (rules, tests, told))))
-    (search rules)
+    let at = c.loop-at.at in
+    let low : get_or bytes at 0 < 256 = omega (arith, c.type_inv.bytes at) in
+    record {
+      low = omega arith;
+      high = omega arith;
+      run = c.loop-at.invariant.2 passes told;
+      stop = stops passes bytes at (λ inside. elim c.loop-at-test.branch [
+        | then-loop-at-test+else-test w ↦ sym (told (get_or bytes at 0) w.test.result low w.test.ensures) ∙ w.if-test.false
+        | else-loop-at-test w ↦ absurd (omega (arith, w.loop-at-test.false))
+      ]);
+    }
